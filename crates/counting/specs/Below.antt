@@ -1,0 +1,37 @@
+-- Whether every number below a bound passes a test.
+use Prim.Native.Nat.{ℕ, zero, suc, _<_}
+use mathlib.Core.Bool.{Bool, true, false, true≢false, _&&_}
+use mathlib.Core.Logic.{_⊎_, inl, inr}
+use mathlib.Core.Path.{_≡_, refl, sym, _∙_, subst⁻¹}
+use native.Mathlib.Nat.{eq-or-lt-of-le, le-of-suc-le-suc, not-suc-le-zero}
+use native.Mathlib.Omega.{arith}
+use Rattle.counting.specs.Tests.{and-left, and-right, and-both}
+
+-- every number below n passes
+unfoldable pub every : ℕ → (ℕ → Bool) → Bool
+every zero p = true
+every (suc n) p = every n p && p n
+
+-- what every number passes, each passes
+pub every-at : (n : ℕ) (p : ℕ → Bool) → every n p ≡ true → (i : ℕ) → i < n → p i ≡ true
+unfolding every
+every-at zero p e i h = absurd (not-suc-le-zero h)
+every-at (suc n) p e i h = go (eq-or-lt-of-le (le-of-suc-le-suc h)) (every-at n p (and-left (every n p) (p n) e) i)
+  where
+    go : (i ≡ n) ⊎ (i < n) → (i < n → p i ≡ true) → p i ≡ true
+    go (inl q) below = subst⁻¹ (λ (k : ℕ). p k ≡ true) q (and-right (every n p) (p n) e)
+    go (inr q) below = below q
+
+-- and what each passes, every number does
+pub every-from : (n : ℕ) (p : ℕ → Bool) → ((i : ℕ) → i < n → p i ≡ true) → every n p ≡ true
+unfolding every
+every-from zero p h = refl
+every-from (suc n) p h = and-both (every-from n p (λ i below. h i (omega arith))) (h n (omega arith))
+
+-- one that fails is enough
+pub every-fails : (n : ℕ) (p : ℕ → Bool) (i : ℕ) → i < n → p i ≡ false → every n p ≡ false
+every-fails n p i h e = go (every n p) refl
+  where
+    go : (b : Bool) → every n p ≡ b → every n p ≡ false
+    go true q = absurd (true≢false (sym (every-at n p q i h) ∙ e))
+    go false q = q

@@ -1,0 +1,28 @@
+-- Laws of tests that are joined by "and" and by "or".
+use mathlib.Core.Bool.{Bool, true, false, true≢false, false≢true, _&&_, _||_}
+use mathlib.Core.Path.{_≡_, refl}
+
+-- a conjunction that holds has both parts
+pub and-left : (a b : Bool) → (a && b) ≡ true → a ≡ true
+and-left true b e = refl
+and-left false b e = e
+
+pub and-right : (a b : Bool) → (a && b) ≡ true → b ≡ true
+and-right true b e = e
+and-right false b e = absurd (false≢true e)
+
+-- and one with both parts holds
+pub and-both : {a b : Bool} → a ≡ true → b ≡ true → (a && b) ≡ true
+and-both p q = rw (p, q)
+
+-- where a disjunction fails each part does
+pub none-of-three : (a b c : Bool) → (a || b || c) ≡ false → (a ≡ false) × (b ≡ false) × (c ≡ false)
+none-of-three true b c e = absurd (true≢false e)
+none-of-three false true c e = absurd (true≢false e)
+none-of-three false false c e = (refl, refl, e)
+
+pub none-of-four : (a b c d : Bool) → (a || b || c || d) ≡ false → (a ≡ false) × (b ≡ false) × (c ≡ false) × (d ≡ false)
+none-of-four true b c d e = absurd (true≢false e)
+none-of-four false true c d e = absurd (true≢false e)
+none-of-four false false true d e = absurd (true≢false e)
+none-of-four false false false d e = (refl, refl, refl, e)
