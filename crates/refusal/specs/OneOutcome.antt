@@ -1,0 +1,49 @@
+-- What is said on paper leaves one answer: two answers that say the same are the same.
+use Prim.Native.Nat.{ℕ}
+use lib.Dec.{eqb}
+use mathlib.Core.Bool.{cond}
+use mathlib.Core.Path.{_≡_, refl, sym, ap, ap₂, _∙_}
+use Rattle.refusal.specs.declared.Refusal.{Refusal}
+use Rattle.refusal.specs.declared.Refusal.the-variants.{Sizes, FaultyServer, Shares, FaultyArrival, ClockEnd, WaitingWork}
+use Rattle.refusal.specs.declared.Verdict.{Verdict}
+use Rattle.refusal.specs.declared.Verdict.the-variants.{Accepted, Refused}
+use Rattle.refusal.specs.Refusals.{numberOf, placeOf, Said, refused, gave, onPaper}
+
+-- whatever a promise `r ≡ x` allows is x, so two answers that it allows are equal
+pub one-outcome {ℓ} : {A : Type ℓ} {x r s : A} → r ≡ x → s ≡ x → r ≡ s
+one-outcome p q = p ∙ sym q
+
+-- the refusal of a number at a place
+refusalOf : ℕ → ℕ → Refusal
+refusalOf n k =
+    cond (eqb n 4) (FaultyServer k)
+    (cond (eqb n 5) Shares
+    (cond (eqb n 6) (FaultyArrival k)
+    (cond (eqb n 10) ClockEnd
+    (cond (eqb n 11) WaitingWork Sizes))))
+
+refusal-back : (r : Refusal) → refusalOf (numberOf r) (placeOf r) ≡ r
+unfolding refusalOf
+refusal-back Sizes = refl
+refusal-back (FaultyServer k) = refl
+refusal-back Shares = refl
+refusal-back (FaultyArrival k) = refl
+refusal-back ClockEnd = refl
+refusal-back WaitingWork = refl
+
+-- number and place tell a refusal
+pub refusal-told : (r s : Refusal) → numberOf r ≡ numberOf s → placeOf r ≡ placeOf s → r ≡ s
+refusal-told r s p q = sym (refusal-back r) ∙ ap₂ refusalOf p q ∙ refusal-back s
+
+verdictOf : Said (Unit {0}) → Verdict
+verdictOf (refused n k) = Refused (refusalOf n k)
+verdictOf (gave u) = Accepted
+
+verdict-back : (v : Verdict) → verdictOf (onPaper v) ≡ v
+unfolding verdictOf
+verdict-back Accepted = refl
+verdict-back (Refused r) = ap Refused (refusal-back r)
+
+-- what it says on paper tells a verdict
+pub verdict-told : (v w : Verdict) → onPaper v ≡ onPaper w → v ≡ w
+verdict-told v w p = sym (verdict-back v) ∙ ap verdictOf p ∙ verdict-back w

@@ -1,0 +1,40 @@
+-- Section "Refusal numbers" of document 01: the number and the place of each refusal, and what an answer says on paper.
+use Prim.Native.Nat.{ℕ}
+use lib.Dec.{eqb}
+use mathlib.Core.Bool.{cond}
+use mathlib.Core.Path.{_≡_, refl, sym, _∙_, ap}
+use Rattle.refusal.specs.declared.Refusal.{Refusal}
+use Rattle.refusal.specs.declared.Refusal.the-variants.{Sizes, FaultyServer, Shares, FaultyArrival, ClockEnd, WaitingWork}
+use Rattle.refusal.specs.declared.Verdict.{Verdict}
+use Rattle.refusal.specs.declared.Verdict.the-variants.{Accepted, Refused}
+
+-- the column "No."
+abbrev pub numberOf : Refusal → ℕ
+numberOf Sizes = 2
+numberOf (FaultyServer k) = 4
+numberOf Shares = 5
+numberOf (FaultyArrival k) = 6
+numberOf ClockEnd = 10
+numberOf WaitingWork = 11
+
+-- the column "Place"
+abbrev pub placeOf : Refusal → ℕ
+placeOf Sizes = 0
+placeOf (FaultyServer k) = k
+placeOf Shares = 0
+placeOf (FaultyArrival k) = k
+placeOf ClockEnd = 0
+placeOf WaitingWork = 0
+
+-- what the document says of an outcome: it was refused with a number and a place, or it gave a value
+pub data Said (A : Type 0) : Type 0 where
+  refused : (number place : ℕ) → Said A
+  gave : A → Said A
+
+-- a verdict gives nothing beside that it accepts
+abbrev pub accepted : Said (Unit {0})
+accepted = gave tt
+
+abbrev pub onPaper : Verdict → Said (Unit {0})
+onPaper Accepted = accepted
+onPaper (Refused r) = refused (numberOf r) (placeOf r)

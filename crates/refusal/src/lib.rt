@@ -1,0 +1,52 @@
+// The refusals of document 01 by number and place, and the answer that is either "accepted" or one of them.
+ghost use mathlib.Core.Path.{_≡_};
+ghost use Rattle.refusal.specs.Refusals.{numberOf, placeOf};
+
+// What was wrong. `specs/Refusals.antt` gives each its number and its place.
+pub enum Refusal {
+    // A size is out of range, or a list's count of numbers does not fit.
+    Sizes,
+    // This server of the table is faulty.
+    FaultyServer(usize),
+    // The shares add up to more than the frame.
+    Shares,
+    // This arrival names no server, or a cost out of range.
+    FaultyArrival(usize),
+    // The clock stands at its end.
+    ClockEnd,
+    // The server's waiting work would grow too large.
+    WaitingWork,
+}
+
+pub enum Verdict {
+    Accepted,
+    Refused(Refusal),
+}
+
+// The refusal's number in the document's table.
+pub fn number(r: Refusal) -> u64
+    ensures { λ n. ⌜ n ≡ numberOf r ⌝ }
+{
+    match r {
+        Refusal::Sizes => 2,
+        Refusal::FaultyServer(_) => 4,
+        Refusal::Shares => 5,
+        Refusal::FaultyArrival(_) => 6,
+        Refusal::ClockEnd => 10,
+        Refusal::WaitingWork => 11,
+    }
+}
+
+// The refusal's place, 0 where the table names no other.
+pub fn place(r: Refusal) -> usize
+    ensures { λ p. ⌜ p ≡ placeOf r ⌝ }
+{
+    match r {
+        Refusal::Sizes => 0,
+        Refusal::FaultyServer(k) => k,
+        Refusal::Shares => 0,
+        Refusal::FaultyArrival(k) => k,
+        Refusal::ClockEnd => 0,
+        Refusal::WaitingWork => 0,
+    }
+}
