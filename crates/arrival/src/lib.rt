@@ -1,0 +1,18 @@
+// An arrival brings work to one server: whether what it names can be taken.
+ghost use mathlib.Core.Path.{_≡_};
+ghost use Rattle.arrival.specs.Arrival.{faulty};
+use clock::Length;
+
+// Whether an arrival at a table of `count` servers names no server of it, or a cost out of range.
+pub fn is_faulty(count: usize, server: usize, cost: Length) -> bool
+    ensures { λ r. ⌜ r ≡ faulty count server cost ⌝ }
+{
+    let ticks = cost.ticks;
+    if server >= count {
+        return true;
+    }
+    if ticks < 1 {
+        return true;
+    }
+    sizes::MOST_COST < ticks
+}

@@ -1,0 +1,3 @@
+pub mod Admission
+pub mod Share
+pub mod ShareLaws
