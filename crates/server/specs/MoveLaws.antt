@@ -1,0 +1,60 @@
+-- The moves of one server case by case, so that no proof above has to open them.
+use Prim.Native.Nat.{_-_, _*_, _≤_, _<_}
+use borrow.Author.Tests.{leb-true, leb-false, le-leb, lt-leb, eq-eqb, ne-eqb}
+use lib.Dec.{leb}
+use mathlib.Core.Bool.{Bool, true, false, _||_, true≢false}
+use mathlib.Core.Path.{_≡_, refl, sym, _∙_}
+use Rattle.clock.specs.declared.Length.{Length}
+use Rattle.clock.specs.declared.Moment.{Moment}
+use Rattle.clock.specs.Clock.{until}
+use Rattle.server.specs.declared.Server.{Server}
+use Rattle.server.specs.Moves.{renews, renewed, withWork, arrived, oneTickLess, postponed, served}
+
+or-true : (b : Bool) → (b || true) ≡ true
+or-true true = refl
+or-true false = refl
+
+or-false : (b : Bool) → (b || false) ≡ b
+or-false true = refl
+or-false false = refl
+
+-- "d is at or before t"
+pub renews-passed : (s : Server) (t : Moment) → s .deadline .tick ≤ t .tick → renews s t ≡ true
+unfolding renews
+renews-passed s t h = rw (le-leb _ _ h, or-true)
+
+-- ahead of t, the one test left is "c × T is at least (d − t) × Q"
+pub renews-ahead : (s : Server) (t : Moment) → t .tick < s .deadline .tick
+    → renews s t ≡ leb (until t (s .deadline) .ticks * s .budget .ticks) (s .remaining .ticks * s .period .ticks)
+unfolding renews
+renews-ahead s t h = rw (lt-leb _ _ h, or-false)
+
+-- a server that keeps has its deadline ahead
+pub keeps-ahead : (s : Server) (t : Moment) → renews s t ≡ false → t .tick < s .deadline .tick
+keeps-ahead s t e = go (leb (s .deadline .tick) (t .tick)) refl
+  where
+    go : (b : Bool) → leb (s .deadline .tick) (t .tick) ≡ b → t .tick < s .deadline .tick
+    go true q = absurd (true≢false (sym (renews-passed s t (leb-true _ _ q)) ∙ e))
+    go false q = leb-false _ _ q
+
+pub arrived-busy : (s : Server) (t : Moment) (cost : Length) → (s .waiting .ticks ≡ 0 → ⊥) → arrived s t cost ≡ withWork s cost
+unfolding arrived
+arrived-busy s t cost h = rw (ne-eqb _ _ h)
+
+pub arrived-renewed : (s : Server) (t : Moment) (cost : Length) → s .waiting .ticks ≡ 0 → renews s t ≡ true
+    → arrived s t cost ≡ withWork (renewed s t) cost
+unfolding arrived
+arrived-renewed s t cost h e = rw (eq-eqb _ _ h, e)
+
+pub arrived-kept : (s : Server) (t : Moment) (cost : Length) → s .waiting .ticks ≡ 0 → renews s t ≡ false
+    → arrived s t cost ≡ withWork s cost
+unfolding arrived
+arrived-kept s t cost h e = rw (eq-eqb _ _ h, e)
+
+pub served-last : (s : Server) → s .remaining .ticks - 1 ≡ 0 → served s ≡ postponed (oneTickLess s)
+unfolding served
+served-last s h = rw (eq-eqb _ _ h)
+
+pub served-more : (s : Server) → (s .remaining .ticks - 1 ≡ 0 → ⊥) → served s ≡ oneTickLess s
+unfolding served
+served-more s h = rw (ne-eqb _ _ h)

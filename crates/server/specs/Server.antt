@@ -1,0 +1,28 @@
+-- What a server holds (document 01, "One moment of the clock"): beside its booking of Q in every T "its remaining budget c, its
+-- deadline d and its waiting work w".
+use Prim.Native.Nat.{ℕ}
+use lib.Dec.{eqb}
+use mathlib.Core.Bool.{Bool}
+use Rattle.booking.specs.declared.Booking.{Booking}
+use Rattle.booking.specs.Share.{booked}
+use Rattle.clock.specs.Clock.{moment, ticks}
+use Rattle.server.specs.declared.Server.{Server}
+
+-- "All are 0 at the start."
+abbrev pub fresh : Booking → Server
+fresh b =
+    record {
+      budget = b .budget;
+      period = b .period;
+      remaining = ticks 0;
+      deadline = moment 0;
+      waiting = ticks 0;
+    }
+
+-- a place behind the servers, at which every number is 0
+abbrev pub blank : Server
+blank = fresh (booked 0 0)
+
+-- "A server is idle when w = 0."
+abbrev pub idle : Server → Bool
+idle s = eqb (s .waiting .ticks) 0
