@@ -1,0 +1,49 @@
+-- `dispatcher::tick` meets its promise: its three ways are the three cases of the definition, and what the definition gives is within
+-- the ranges.
+use borrow.Author.Needs.{needs}
+use mathlib.Core.Path.{sym, _∙_}
+use native.Mathlib.Omega.{arith}
+use Rattle.clock.specs.Clock.{shown-whole}
+use Rattle.dispatcher.specs.MoveLaws.{ticked-ended, ticked-ran, ticked-idle, ticked-within, and-within}
+use Rattle.dispatcher.specs.PickLaws.{picked-earliest}
+use Rattle.dispatcher.proofs.tick.Statement.{statement}
+use Rattle.dispatcher.proofs.tick.Tie as tie
+
+returns : tie.Need-returns
+returns c = and-within (ticked-within (c .before .before .before .pre)) (sym (ticked-ended _ (c .if1 .taken)))
+
+pick-requires : tie.Need-pick-requires
+pick-requires c κs = search needs
+
+run-requires : tie.Need-run-requires
+run-requires c κs =
+    let chosen = rw (c .before .pick .ensures) at (c .if2 .taken) in (
+      c .before .before .before .before .before .pre,
+      (
+        c .before .before .if1 .left,
+        (
+          c .if2 .taken,
+          rw (c .before .pick .ensures) (picked-earliest _ chosen .works),
+        ),
+      ),
+    )
+
+returns-2 : tie.Need-returns-2
+returns-2 c =
+    let chosen = rw (c .before .before .pick .ensures) at (c .before .if2 .taken) in
+    and-within (ticked-within (c .before .before .before .before .before .before .pre))
+    (c .run .ensures
+    ∙ rw (c .before .before .pick .ensures) (sym (ticked-ran _ (c .before .before .before .if1 .left) chosen)))
+
+later-requires : tie.Need-later-requires
+later-requires c κs = search needs
+
+returns-3 : tie.Need-returns-3
+returns-3 c =
+    let nobody = rw (c .before .before .pick .ensures) at (c .before .if2 .left) in
+    and-within (ticked-within (c .before .before .before .before .before .before .pre))
+    (rw (c .later .ensures ∙ shown-whole _ (omega arith))
+    (sym (ticked-idle _ (c .before .before .before .if1 .left) nobody)))
+
+pub tick-spec : {M : Type 1} → statement M
+tick-spec = tie.close (tie.spec returns pick-requires run-requires returns-2 later-requires returns-3)

@@ -1,0 +1,5 @@
+pub mod MoveLaws
+pub mod Moves
+pub mod Pick
+pub mod PickLaws
+pub mod Within

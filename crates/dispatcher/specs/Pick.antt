@@ -1,0 +1,24 @@
+-- Which server a tick goes to (document 01, "One moment of the clock", step 2): "Among servers with waiting work the one with the
+-- earliest deadline runs; equal deadlines go to the lower number. If there is none, the tick is idle."
+use Prim.Native.Nat.{ℕ}
+use lib.Dec.{leb}
+use lib.ListN.{getD}
+use mathlib.Core.Bool.{Bool, not, _&&_, _||_}
+use Rattle.counting.specs.Below.{every}
+use Rattle.counting.specs.First.{first}
+use Rattle.server.specs.declared.Server.{Server}
+use Rattle.server.specs.Server.{blank, idle}
+use Rattle.dispatcher.specs.declared.Dispatcher.{Dispatcher}
+
+abbrev pub serverAt : Dispatcher → ℕ → Server
+serverAt d i = getD (d .servers) i blank
+
+-- server i has work, and no server with work has an earlier deadline
+unfoldable pub earliest : Dispatcher → ℕ → Bool
+earliest d i =
+    not (idle (serverAt d i))
+    && every (d .count) (λ j. idle (serverAt d j) || leb (serverAt d i .deadline .tick) (serverAt d j .deadline .tick))
+
+-- the lowest number of those, and the count of servers where there is none
+unfoldable pub picked : Dispatcher → ℕ
+picked d = first (d .count) (earliest d)

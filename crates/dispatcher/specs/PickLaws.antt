@@ -1,0 +1,144 @@
+-- The pick is the earliest deadline with ties to the lower number, said as document 01 says it, and nobody where nobody has work.
+use Prim.Native.Nat.{ℕ, zero, suc, _≤_, _<_}
+use borrow.Author.Tests.{le-leb, lt-leb}
+use lib.Dec.{leb}
+use mathlib.Core.Bool.{Bool, true, false, _||_, true≢false}
+use mathlib.Core.Logic.{_⊎_, inl, inr, ⊎-elim}
+use mathlib.Core.Path.{_≡_, refl, sym, _∙_, subst⁻¹}
+use native.Mathlib.Decide.{decLt}
+use native.Mathlib.Nat.{eq-or-lt-of-le, le-of-suc-le-suc, not-suc-le-zero}
+use native.Mathlib.Omega.{arith}
+use Rattle.counting.specs.Below.{every, every-from, every-fails}
+use Rattle.counting.specs.First.{first-is, first-none}
+use Rattle.server.specs.Server.{idle}
+use Rattle.dispatcher.specs.declared.Dispatcher.{Dispatcher}
+use Rattle.dispatcher.specs.Pick.{serverAt, earliest, picked}
+
+abbrev deadlineAt : Dispatcher → ℕ → ℕ
+deadlineAt d i = serverAt d i .deadline .tick
+
+-- server i among the first k: it has work, its deadline is the earliest of those with work, and of those with the same deadline it
+-- has the lowest number
+pub record Earliest (d : Dispatcher) (k i : ℕ) : Type 0 where
+  pub among : i < k
+  pub works : idle (serverAt d i) ≡ false
+  pub least : (j : ℕ) → j < k → idle (serverAt d j) ≡ false → serverAt d i .deadline .tick ≤ serverAt d j .deadline .tick
+  pub lowest : (j : ℕ) → j < i → idle (serverAt d j) ≡ false → serverAt d i .deadline .tick < serverAt d j .deadline .tick
+
+-- none of the first k has work
+abbrev pub NoneWorks : Dispatcher → ℕ → Type 0
+NoneWorks d k = (j : ℕ) → j < k → idle (serverAt d j) ≡ true
+
+-- a server does not both work and idle
+works-not : {A : Type 0} {b : Bool} → b ≡ true → b ≡ false → A
+works-not p q = absurd (true≢false (sym p ∙ q))
+
+-- How the first k + 1 go on from the first k.
+module _ (d : Dispatcher) (k : ℕ) where
+  below-more : (P : ℕ → Type 0) → ((j : ℕ) → j < k → P j) → P k → (j : ℕ) → j < suc k → P j
+  below-more P less same j h =
+      ⊎-elim (λ (q : j ≡ k). subst⁻¹ P q same) (less j) (eq-or-lt-of-le (le-of-suc-le-suc h))
+
+  pub none-more : NoneWorks d k → idle (serverAt d k) ≡ true → NoneWorks d (suc k)
+  none-more none e = below-more (λ (j : ℕ). idle (serverAt d j) ≡ true) none e
+
+  -- the first with work
+  pub earliest-first : NoneWorks d k → idle (serverAt d k) ≡ false → Earliest d (suc k) k
+  earliest-first none e =
+      record {
+        among = omega arith;
+        works = e;
+        least =
+            below-more (λ (j : ℕ). idle (serverAt d j) ≡ false → deadlineAt d k ≤ deadlineAt d j)
+            (λ j h w. works-not (none j h) w)
+            (λ w. omega arith);
+        lowest = λ j h w. works-not (none j h) w;
+      }
+
+  -- one more that is idle, or whose deadline is no earlier
+  pub earliest-stays : (i : ℕ) → Earliest d k i
+      → (idle (serverAt d k) ≡ false → serverAt d i .deadline .tick ≤ serverAt d k .deadline .tick) → Earliest d (suc k) i
+  earliest-stays i e h =
+      record {
+        among = omega (arith, e .among);
+        works = e .works;
+        least = below-more (λ (j : ℕ). idle (serverAt d j) ≡ false → deadlineAt d i ≤ deadlineAt d j) (e .least) h;
+        lowest = e .lowest;
+      }
+
+  -- one more whose deadline is earlier
+  pub earliest-moves : (i : ℕ) → Earliest d k i → idle (serverAt d k) ≡ false
+      → serverAt d k .deadline .tick < serverAt d i .deadline .tick → Earliest d (suc k) k
+  earliest-moves i e w h =
+      record {
+        among = omega arith;
+        works = w;
+        least =
+            below-more (λ (j : ℕ). idle (serverAt d j) ≡ false → deadlineAt d k ≤ deadlineAt d j)
+            (λ j b v. omega (arith, e .least j b v))
+            (λ v. omega arith);
+        lowest = λ j b v. omega (arith, e .least j b v);
+      }
+
+-- among the first k either none works or one is the earliest
+none-or-earliest : (d : Dispatcher) (k : ℕ) → NoneWorks d k ⊎ ((i : ℕ) × Earliest d k i)
+none-or-earliest d zero = inl (λ j h. absurd (not-suc-le-zero h))
+none-or-earliest d (suc k) = go (none-or-earliest d k) (idle (serverAt d k)) refl
+  where
+    later : (i : ℕ) → Earliest d k i → idle (serverAt d k) ≡ false → Dec (deadlineAt d k < deadlineAt d i)
+        → NoneWorks d (suc k) ⊎ ((i : ℕ) × Earliest d (suc k) i)
+    later i e w (yes h) = inr (k, earliest-moves d k i e w h)
+    later i e w (no h) = inr (i, earliest-stays d k i e (λ v. omega arith))
+
+    go : NoneWorks d k ⊎ ((i : ℕ) × Earliest d k i) → (b : Bool) → idle (serverAt d k) ≡ b
+        → NoneWorks d (suc k) ⊎ ((i : ℕ) × Earliest d (suc k) i)
+    go (inl none) true w = inl (none-more d k none w)
+    go (inl none) false w = inr (k, earliest-first d k none w)
+    go (inr found) true w = inr (found .0, earliest-stays d k (found .0) (found .1) (λ v. works-not w v))
+    go (inr found) false w = later (found .0) (found .1) w (decLt _ _)
+
+module _ (d : Dispatcher) where
+  no-earlier : ℕ → ℕ → Bool
+  no-earlier i j = idle (serverAt d j) || leb (deadlineAt d i) (deadlineAt d j)
+
+  -- the earliest of all is picked
+  pub earliest-picked : (i : ℕ) → Earliest d (d .count) i → picked d ≡ i
+  unfolding picked earliest no-earlier
+  earliest-picked i e =
+      first-is (d .count) (earliest d) i (e .among) (rw (e .works) (every-from (d .count) (no-earlier i) none)) before
+    where
+      none : (j : ℕ) → j < d .count → no-earlier i j ≡ true
+      none j h = go (idle (serverAt d j)) refl
+        where
+          go : (b : Bool) → idle (serverAt d j) ≡ b → no-earlier i j ≡ true
+          go true w = rw w
+          go false w = rw (w, le-leb _ _ (e .least j h w))
+
+      before : (j : ℕ) → j < i → earliest d j ≡ false
+      before j h = go (idle (serverAt d j)) refl
+        where
+          go : (b : Bool) → idle (serverAt d j) ≡ b → earliest d j ≡ false
+          go true w = rw w
+          go false w = rw w (every-fails (d .count) (no-earlier j) i (e .among) (rw (e .works, lt-leb _ _ (e .lowest j h w))))
+
+  -- where none works none is picked
+  pub none-picked : NoneWorks d (d .count) → picked d ≡ d .count
+  unfolding picked earliest
+  none-picked none = first-none (d .count) (earliest d) (λ j h. rw (none j h))
+
+  -- what is picked is the earliest
+  pub picked-earliest : picked d < d .count → Earliest d (d .count) (picked d)
+  picked-earliest h = go (none-or-earliest d (d .count))
+    where
+      go : NoneWorks d (d .count) ⊎ ((i : ℕ) × Earliest d (d .count) i) → Earliest d (d .count) (picked d)
+      go (inl none) = let no : ⊥ = omega (arith, none-picked none) in absurd no
+      go (inr found) = subst⁻¹ (Earliest d (d .count)) (earliest-picked (found .0) (found .1)) (found .1)
+
+  -- and where none is picked none works
+  pub picked-none : d .count ≤ picked d → NoneWorks d (d .count)
+  picked-none h = go (none-or-earliest d (d .count))
+    where
+      go : NoneWorks d (d .count) ⊎ ((i : ℕ) × Earliest d (d .count) i) → NoneWorks d (d .count)
+      go (inl none) = none
+      go (inr found) =
+          let no : ⊥ = omega (arith, earliest-picked (found .0) (found .1), found .1 .among) in absurd no

@@ -1,0 +1,142 @@
+// The dispatcher: the servers of one node and its clock, and the two moves that change them, an arrival and a tick.
+// A move takes the dispatcher by value and hands it back. Its one premise, `Within`, is ranges of the dispatcher's numbers: every
+// opening hands out a dispatcher within them and every move keeps it there, so that a caller has nothing to check.
+mod picking;
+mod serving;
+mod taking;
+
+ghost use mathlib.Core.Path.{_≡_};
+ghost use Prim.Native.Nat.{_<_};
+ghost use mathlib.Core.Bool.{false};
+ghost use Rattle.server.specs.Server.{idle};
+ghost use Rattle.sizes.specs.Sizes.{clockEnd};
+ghost use Rattle.dispatcher.specs.Moves.{arrivalSays, arrivalTaken, tickSays, ticked, ran};
+ghost use Rattle.dispatcher.specs.Pick.{serverAt};
+ghost use Rattle.dispatcher.specs.Within.{Within};
+use clock::Length;
+use clock::Moment;
+use refusal::Refusal;
+use refusal::Verdict;
+use server::Server;
+
+pub struct Dispatcher {
+    // H
+    pub frame: Length,
+    // n, how many of the places hold a server
+    pub count: usize,
+    pub clock: Moment,
+    pub servers: [Server; sizes::MOST_SERVERS],
+}
+
+pub struct Arrived {
+    pub answer: Verdict,
+    pub dispatcher: Dispatcher,
+}
+
+pub enum TickAnswer {
+    Idle,
+    // The server that ran, the deadline that it ran under, and whether that tick postponed it.
+    Ran {
+        server: usize,
+        deadline: Moment,
+        postponed: bool,
+    },
+    Refused(Refusal),
+}
+
+pub struct Ticked {
+    pub answer: TickAnswer,
+    pub dispatcher: Dispatcher,
+}
+
+// Work for one server at this moment of the clock.
+pub fn arrival(d: Dispatcher, server: usize, cost: Length) -> Arrived
+    requires { ⌜ Within d ⌝ }
+    ensures { λ r. ⌜ arrivalSays r ≡ arrivalTaken d server cost ⌝ }
+    ensures { λ r. ⌜ Within (r .dispatcher) ⌝ }
+{
+    let count = d.count;
+    let now = d.clock;
+    let ticks = cost.ticks;
+    if arrival::is_faulty(count, server, cost) {
+        return Arrived {
+            answer: Verdict::Refused(Refusal::FaultyArrival(0)),
+            dispatcher: d,
+        };
+    }
+    let s = d.servers[server];
+    if sizes::MOST_WAITING - s.waiting.ticks < ticks {
+        return Arrived {
+            answer: Verdict::Refused(Refusal::WaitingWork),
+            dispatcher: d,
+        };
+    }
+    let mut next = d;
+    next.servers[server] = taking::take(s, now, cost);
+    Arrived {
+        answer: Verdict::Accepted,
+        dispatcher: next,
+    }
+}
+
+// One tick of the clock, given to the server that is picked.
+pub fn tick(d: Dispatcher) -> Ticked
+    requires { ⌜ Within d ⌝ }
+    ensures { λ r. ⌜ tickSays r ≡ ticked d ⌝ }
+    ensures { λ r. ⌜ Within (r .dispatcher) ⌝ }
+{
+    let count = d.count;
+    let now = d.clock;
+    if sizes::CLOCK_END <= now.tick {
+        return Ticked {
+            answer: TickAnswer::Refused(Refusal::ClockEnd),
+            dispatcher: d,
+        };
+    }
+    let i = picking::pick(d);
+    if i < count {
+        return run(d, i);
+    }
+    let mut next = d;
+    next.clock = clock::later(now, Length { ticks: 1 });
+    Ticked {
+        answer: TickAnswer::Idle,
+        dispatcher: next,
+    }
+}
+
+// The tick as server i's.
+fn run(d: Dispatcher, i: usize) -> Ticked
+    requires { ⌜ Within d ⌝ }
+    requires { ⌜ d .clock .tick < clockEnd ⌝ }
+    requires { ⌜ i < d .count ⌝ }
+    requires { ⌜ idle (serverAt d i) ≡ false ⌝ }
+    ensures { λ r. ⌜ tickSays r ≡ ran d i ⌝ }
+{
+    let now = d.clock;
+    let s = d.servers[i];
+    let deadline = s.deadline;
+    let less = serving::one_tick_less(s);
+    let mut next = d;
+    next.clock = clock::later(now, Length { ticks: 1 });
+    if less.remaining.ticks == 0 {
+        next.servers[i] = serving::postpone(less);
+        return Ticked {
+            answer: TickAnswer::Ran {
+                server: i,
+                deadline,
+                postponed: true,
+            },
+            dispatcher: next,
+        };
+    }
+    next.servers[i] = less;
+    Ticked {
+        answer: TickAnswer::Ran {
+            server: i,
+            deadline,
+            postponed: false,
+        },
+        dispatcher: next,
+    }
+}
