@@ -1,3 +1,4 @@
 pub mod Admission
+pub mod AdmissionLaws
 pub mod Share
 pub mod ShareLaws

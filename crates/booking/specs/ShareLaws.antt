@@ -1,15 +1,16 @@
 -- Laws of a booking's faults and share.
-use Prim.Native.Nat.{_*_, _/_, _%_, _≤_}
+use Prim.Native.Nat.{ℕ, zero, suc, _*_, _/_, _%_, _≤_}
 use borrow.Author.Tests.{eqb-true, eqb-false, ltb-false, not-false}
 use lib.Dec.{eqb}
-use mathlib.Core.Bool.{false}
-use mathlib.Core.Path.{_≡_}
+use mathlib.Core.Bool.{Bool, true, false}
+use mathlib.Core.Path.{_≡_, refl}
 use native.Mathlib.Nat.{mul-le-mul-right, mul-div-le, pos-of-ne-zero, div-add-mod}
 use native.Mathlib.Omega.{arith}
 use Rattle.clock.specs.declared.Length.{Length}
 use Rattle.counting.specs.Tests.{none-of-four}
 use Rattle.booking.specs.declared.Booking.{Booking}
-use Rattle.booking.specs.Share.{faulty, share}
+use Rattle.booking.specs.declared.Weighed.the-variants.{Faulty, Share}
+use Rattle.booking.specs.Share.{faulty, share, weighed}
 
 -- what a booking without a fault has
 pub record Sound (H : Length) (b : Booking) : Type 0 where
@@ -31,3 +32,29 @@ sound H b e =
 pub share-le-frame : (H : Length) (b : Booking) → b .budget .ticks ≤ b .period .ticks → share H b .ticks ≤ H .ticks
 share-le-frame H b h =
     omega (arith, mul-le-mul-right (H .ticks / b .period .ticks) h, mul-div-le (H .ticks) (b .period .ticks))
+
+-- and so is its period
+pub period-le-frame : (H : Length) (b : Booking) → Sound H b → 1 ≤ H .ticks → b .period .ticks ≤ H .ticks
+period-le-frame H b s h = go (H .ticks / b .period .ticks) (s .divides)
+  where
+    go : (times : ℕ) → b .period .ticks * times ≡ H .ticks → b .period .ticks ≤ H .ticks
+    go zero e = let no : ⊥ = omega arith in absurd no
+    go (suc times) e = omega arith
+
+-- what weighing tells
+pub weighed-faulty : (H : Length) (b : Booking) → weighed H b ≡ Faulty → faulty H b ≡ true
+weighed-faulty H b e = go (faulty H b) refl
+  where
+    go : (f : Bool) → faulty H b ≡ f → faulty H b ≡ true
+    go true f = f
+    go false f = let whole : weighed H b ≡ Share (share H b) = rw f in cc
+
+pub weighed-sound : (H : Length) (b : Booking) {x : Length} → weighed H b ≡ Share x → faulty H b ≡ false
+weighed-sound H b e = go (faulty H b) refl
+  where
+    go : (f : Bool) → faulty H b ≡ f → faulty H b ≡ false
+    go true f = let none : weighed H b ≡ Faulty = rw f in cc
+    go false f = f
+
+pub weighed-share : (H : Length) (b : Booking) {x : Length} → weighed H b ≡ Share x → x ≡ share H b
+weighed-share H b e = let whole : weighed H b ≡ Share (share H b) = rw (weighed-sound H b e) in cc

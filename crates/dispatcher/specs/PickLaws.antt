@@ -3,12 +3,12 @@ use Prim.Native.Nat.{ℕ, zero, suc, _≤_, _<_}
 use borrow.Author.Tests.{le-leb, lt-leb}
 use lib.Dec.{leb}
 use mathlib.Core.Bool.{Bool, true, false, _||_, true≢false}
-use mathlib.Core.Logic.{_⊎_, inl, inr, ⊎-elim}
+use mathlib.Core.Logic.{_⊎_, inl, inr}
 use mathlib.Core.Path.{_≡_, refl, sym, _∙_, subst⁻¹}
 use native.Mathlib.Decide.{decLt}
-use native.Mathlib.Nat.{eq-or-lt-of-le, le-of-suc-le-suc, not-suc-le-zero}
+use native.Mathlib.Nat.{not-suc-le-zero}
 use native.Mathlib.Omega.{arith}
-use Rattle.counting.specs.Below.{every, every-from, every-fails}
+use Rattle.counting.specs.Below.{below-suc, every-from, every-fails}
 use Rattle.counting.specs.First.{first-is, first-none}
 use Rattle.server.specs.Server.{idle}
 use Rattle.dispatcher.specs.declared.Dispatcher.{Dispatcher}
@@ -35,12 +35,8 @@ works-not p q = absurd (true≢false (sym p ∙ q))
 
 -- How the first k + 1 go on from the first k.
 module _ (d : Dispatcher) (k : ℕ) where
-  below-more : (P : ℕ → Type 0) → ((j : ℕ) → j < k → P j) → P k → (j : ℕ) → j < suc k → P j
-  below-more P less same j h =
-      ⊎-elim (λ (q : j ≡ k). subst⁻¹ P q same) (less j) (eq-or-lt-of-le (le-of-suc-le-suc h))
-
   pub none-more : NoneWorks d k → idle (serverAt d k) ≡ true → NoneWorks d (suc k)
-  none-more none e = below-more (λ (j : ℕ). idle (serverAt d j) ≡ true) none e
+  none-more none e = below-suc (λ (j : ℕ). idle (serverAt d j) ≡ true) k none e
 
   -- the first with work
   pub earliest-first : NoneWorks d k → idle (serverAt d k) ≡ false → Earliest d (suc k) k
@@ -49,7 +45,7 @@ module _ (d : Dispatcher) (k : ℕ) where
         among = omega arith;
         works = e;
         least =
-            below-more (λ (j : ℕ). idle (serverAt d j) ≡ false → deadlineAt d k ≤ deadlineAt d j)
+            below-suc (λ (j : ℕ). idle (serverAt d j) ≡ false → deadlineAt d k ≤ deadlineAt d j) k
             (λ j h w. works-not (none j h) w)
             (λ w. omega arith);
         lowest = λ j h w. works-not (none j h) w;
@@ -62,7 +58,7 @@ module _ (d : Dispatcher) (k : ℕ) where
       record {
         among = omega (arith, e .among);
         works = e .works;
-        least = below-more (λ (j : ℕ). idle (serverAt d j) ≡ false → deadlineAt d i ≤ deadlineAt d j) (e .least) h;
+        least = below-suc (λ (j : ℕ). idle (serverAt d j) ≡ false → deadlineAt d i ≤ deadlineAt d j) k (e .least) h;
         lowest = e .lowest;
       }
 
@@ -74,7 +70,7 @@ module _ (d : Dispatcher) (k : ℕ) where
         among = omega arith;
         works = w;
         least =
-            below-more (λ (j : ℕ). idle (serverAt d j) ≡ false → deadlineAt d k ≤ deadlineAt d j)
+            below-suc (λ (j : ℕ). idle (serverAt d j) ≡ false → deadlineAt d k ≤ deadlineAt d j) k
             (λ j b v. omega (arith, e .least j b v))
             (λ v. omega arith);
         lowest = λ j b v. omega (arith, e .least j b v);

@@ -2,7 +2,7 @@
 use Prim.Native.Nat.{ℕ}
 use lib.Dec.{eqb}
 use mathlib.Core.Bool.{cond}
-use mathlib.Core.Path.{_≡_, refl, sym, ap, ap₂, _∙_}
+use mathlib.Core.Path.{_≡_, refl, sym, ap, ap₂, subst, _∙_}
 use Rattle.refusal.specs.declared.Refusal.{Refusal}
 use Rattle.refusal.specs.declared.Refusal.the-variants.{Sizes, FaultyServer, Shares, FaultyArrival, ClockEnd, WaitingWork}
 use Rattle.refusal.specs.declared.Verdict.{Verdict}
@@ -47,3 +47,11 @@ verdict-back (Refused r) = ap Refused (refusal-back r)
 -- what it says on paper tells a verdict
 pub verdict-told : (v w : Verdict) → onPaper v ≡ onPaper w → v ≡ w
 verdict-told v w p = sym (verdict-back v) ∙ ap verdictOf p ∙ verdict-back w
+
+-- what is refused was not given
+abbrev IsRefused : {A : Type 0} → Said A → Type 0
+IsRefused (refused n k) = Unit {0}
+IsRefused (gave a) = ⊥
+
+pub refused≢gave : {A : Type 0} {n k : ℕ} {a : A} → refused n k ≡ gave a → ⊥
+refused≢gave e = subst IsRefused e tt

@@ -1,0 +1,25 @@
+-- A dispatcher at its start: the clock at 0, and of every server all that it holds (document 01: "All are 0 at the start").
+use Prim.Native.Nat.{ℕ}
+use lib.Dec.{ltb}
+use mathlib.Core.Bool.{cond}
+use Rattle.booking.specs.Admission.{Table}
+use Rattle.clock.specs.declared.Length.{Length}
+use Rattle.clock.specs.Clock.{moment}
+use Rattle.counting.specs.Places.{places}
+use Rattle.server.specs.declared.Server.{Server}
+use Rattle.server.specs.Server.{blank, fresh}
+use Rattle.sizes.specs.Sizes.{mostServers}
+use Rattle.dispatcher.specs.declared.Dispatcher.{Dispatcher}
+
+-- a server at each of the table's numbers; "Places behind its servers are 0"
+abbrev pub startAt : Table → ℕ → Server
+startAt t k = cond (ltb k (t .count)) (fresh (t .booking k)) blank
+
+unfoldable pub atStart : Length → Table → Dispatcher
+atStart H t =
+    record {
+      frame = H;
+      count = t .count;
+      clock = moment 0;
+      servers = places mostServers (startAt t);
+    }

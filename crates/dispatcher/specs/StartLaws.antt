@@ -1,0 +1,75 @@
+-- A dispatcher at its start is made server by server, and is within the ranges of the moves.
+use Prim.Native.Nat.{ℕ, suc, _≤_, _<_, zero-le}
+use borrow.Author.Tests.{lt-ltb, le-ltb}
+use lib.ListN.{getD, replicate, set, List·getD-eq-default}
+use mathlib.Core.Logic.{_≢_}
+use mathlib.Core.Path.{_≡_, sym, _∙_}
+use native.Mathlib.Decide.{decLt}
+use native.Mathlib.Omega.{arith}
+use Rattle.booking.specs.Admission.{Table}
+use Rattle.booking.specs.declared.Booking.{Booking}
+use Rattle.clock.specs.declared.Length.{Length}
+use Rattle.clock.specs.Clock.{moment}
+use Rattle.counting.specs.Places.{places, length-places, getD-places, places-same, places-replicate, set-places}
+use Rattle.server.specs.RangeLaws.{fresh-ranged}
+use Rattle.server.specs.Ranges.{Ranged}
+use Rattle.server.specs.Server.{blank, fresh}
+use Rattle.sizes.specs.Sizes.{mostFrame, mostServers}
+use Rattle.dispatcher.specs.Start.{startAt, atStart}
+use Rattle.dispatcher.specs.Within.{Within}
+
+-- One server after the other: with the first k in place, the next one's.
+module _ (booking : ℕ → Booking) where
+  abbrev pub firstOf : ℕ → Table
+  firstOf k = record { count = k; booking = booking }
+
+  pub start-none : replicate mostServers blank ≡ places mostServers (startAt (firstOf 0))
+  start-none =
+      places-replicate mostServers blank ∙ places-same mostServers (λ i. blank) (startAt (firstOf 0)) (λ i h. rw (le-ltb i 0 zero-le))
+
+  pub start-more : (k : ℕ) → k < mostServers
+      → set (places mostServers (startAt (firstOf k))) k (fresh (booking k)) ≡ places mostServers (startAt (firstOf (suc k)))
+  start-more k h =
+      rw (sym here)
+      (set-places mostServers (startAt (firstOf k)) (startAt (firstOf (suc k))) k h (λ i q. elsewhere i q (decLt i k)))
+    where
+      here : startAt (firstOf (suc k)) k ≡ fresh (booking k)
+      here = rw (lt-ltb k (suc k) (omega arith))
+
+      elsewhere : (i : ℕ) → i ≢ k → Dec (i < k) → startAt (firstOf k) i ≡ startAt (firstOf (suc k)) i
+      elsewhere i q (yes b) = rw (lt-ltb i k b, lt-ltb i (suc k) (omega arith))
+      elsewhere i q (no b) = rw (le-ltb i k (omega arith), le-ltb i (suc k) (omega arith))
+
+-- what a server's booking has to be
+pub record Bookable (b : Booking) : Type 0 where
+  pub budget : 1 ≤ b .budget .ticks
+  pub fits : b .budget .ticks ≤ b .period .ticks
+  pub period : b .period .ticks ≤ mostFrame
+
+module _ (H : Length) (t : Table) (from : 1 ≤ H .ticks) (to : H .ticks ≤ mostFrame) (few : t .count ≤ mostServers)
+    (good : (k : ℕ) → k < t .count → Bookable (t .booking k)) where
+  at : (k : ℕ) → k < mostServers → getD (places mostServers (startAt t)) k blank ≡ startAt t k
+  at k h = getD-places mostServers (startAt t) k blank h
+
+  pub start-within : Within (atStart H t)
+  unfolding atStart
+  start-within =
+      record {
+        frame-from = from;
+        frame-to = to;
+        clock = omega arith;
+        count = few;
+        places = length-places mostServers (startAt t);
+        servers = served;
+        behind = λ k h. behind k h (decLt k mostServers);
+      }
+    where
+      served : (k : ℕ) → k < t .count → Ranged (moment 0) (getD (places mostServers (startAt t)) k blank)
+      served k h =
+          let b = good k h in
+          rw (at k (omega arith), lt-ltb _ _ h) (fresh-ranged (t .booking k) (moment 0) (b .budget) (b .fits) (b .period))
+
+      behind : (k : ℕ) → t .count ≤ k → Dec (k < mostServers) → getD (places mostServers (startAt t)) k blank ≡ blank
+      behind k h (yes b) = rw (at k b, le-ltb _ _ h)
+      behind k h (no b) =
+          List·getD-eq-default (places mostServers (startAt t)) blank (omega (arith, length-places mostServers (startAt t)))

@@ -1,0 +1,50 @@
+-- `opening::open_table` meets its promise: the verdict is the judgement, and each of its two cases hands back its dispatcher.
+use borrow.Author.Needs.{needs}
+use mathlib.Core.Path.{sym, _∙_, ap}
+use Rattle.dispatcher.specs.MoveLaws.{and-within}
+use Rattle.refusal.specs.Refusals.{onPaper}
+use Rattle.opening.specs.OpeningLaws.{accepted-shaped, opening-accepted, opening-refused, opening-within}
+use Rattle.opening.proofs.open_table.Statement.{statement}
+use Rattle.opening.proofs.open_table.Tie as tie
+
+judge-requires : tie.Need-judge-requires
+judge-requires c κs = search needs
+
+enum-told : tie.Need-enum-told
+enum-told c = search needs
+
+start-requires : tie.Need-start-requires
+start-requires c κs =
+    accepted-shaped _ _ (sym (c .before .before .judge .ensures) ∙ ap onPaper (c .enum-told .given .1)) .few
+
+enum-known-verdict : tie.Need-enum-known-verdict
+enum-known-verdict c = search needs
+
+nobody-requires : tie.Need-nobody-requires
+nobody-requires c κs = search needs
+
+returns : tie.Need-returns
+returns c =
+    and-within (opening-within _ _)
+    (rw (c .start .ensures)
+    (sym (opening-accepted _ _ (sym (c .before .before .before .judge .ensures) ∙ ap onPaper (c .before .enum-told .given .1)))))
+
+returns-2 : tie.Need-returns-2
+returns-2 c =
+    and-within (opening-within _ _)
+    (rw (c .nobody .ensures)
+    (sym
+    (opening-refused _ _ _ _
+    (sym (c .before .before .before .before .judge .ensures) ∙ ap onPaper (c .before .before .verdict .given .1)))))
+
+pub open-table-spec : {M : Type 1} → statement M
+open-table-spec =
+    tie.close
+    (tie.spec
+    judge-requires
+    enum-told
+    start-requires
+    enum-known-verdict
+    nobody-requires
+    returns
+    returns-2)

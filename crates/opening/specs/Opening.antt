@@ -1,0 +1,45 @@
+-- Opening a live table (document 01, "Refusal numbers"): "Opening a live table, a list of Q, T pairs and H, gives 2, 4 or 5 in that
+-- order."
+use Prim.Native.Nat.{ℕ, _+_, _*_, _/_, _%_}
+use lib.Dec.{eqb, ltb}
+use lib.ListN.{getD, length}
+use mathlib.Core.Bool.{Bool, cond, not, _||_}
+use mathlib.Core.List.{List}
+use Rattle.booking.specs.Admission.{Table, admission}
+use Rattle.booking.specs.Share.{booked}
+use Rattle.clock.specs.declared.Length.{Length}
+use Rattle.clock.specs.Clock.{ticks}
+use Rattle.dispatcher.specs.declared.Dispatcher.{Dispatcher}
+use Rattle.dispatcher.specs.Moves.{Moved}
+use Rattle.dispatcher.specs.Start.{atStart}
+use Rattle.refusal.specs.Refusals.{Said, refused, gave, accepted, onPaper}
+use Rattle.sizes.specs.Sizes.{mostFrame, mostServers}
+use Rattle.opening.specs.declared.Opened.{Opened}
+
+-- the table of a list of pairs: Q and T of server k are the numbers 2 × k and 2 × k + 1
+abbrev pub listed : List ℕ → Table
+listed l = record { count = length l / 2; booking = λ k. booked (getD l (2 * k) 0) (getD l (2 * k + 1) 0) }
+
+-- refusal 2: "H, N, n or m out of range; for a live table also an odd count of numbers"
+abbrev pub misshapen : ℕ → Length → Bool
+misshapen numbers H =
+    ltb (H .ticks) 1 || ltb mostFrame (H .ticks) || ltb mostServers (numbers / 2) || not (eqb (numbers % 2) 0)
+
+-- 2, then 4 and 5 of admission
+unfoldable pub judged : List ℕ → Length → Said (Unit {0})
+judged l H = cond (misshapen (length l) H) (refused 2 0) (admission H (listed l))
+
+-- "a refused opening also hands back a dispatcher with H 1, no servers and the clock at 0"
+abbrev pub noServers : Dispatcher
+noServers = atStart (ticks 1) (record { count = 0; booking = λ k. booked 0 0 })
+
+-- the dispatcher that goes with an answer
+abbrev pub handedBack : Said (Unit {0}) → Dispatcher → Dispatcher
+handedBack (gave u) d = d
+handedBack (refused number place) d = noServers
+
+unfoldable pub opening : List ℕ → Length → Moved (Unit {0})
+opening l H = record { answer = judged l H; dispatcher = handedBack (judged l H) (atStart H (listed l)) }
+
+abbrev pub openingSays : Opened → Moved (Unit {0})
+openingSays r = record { answer = onPaper (r .answer); dispatcher = r .dispatcher }

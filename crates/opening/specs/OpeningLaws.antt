@@ -1,0 +1,99 @@
+-- Opening case by case, and that it lands within the ranges of the moves.
+use Prim.Native.Nat.{ℕ, _/_, _%_, _≤_, _<_}
+use borrow.Author.Tests.{eqb-true, ltb-false, not-false}
+use lib.Dec.{ltb}
+use lib.ListN.{length}
+use mathlib.Core.Bool.{Bool, true, false}
+use mathlib.Core.List.{List}
+use mathlib.Core.Path.{_≡_, refl, sym, _∙_}
+use native.Mathlib.Nat.{le-trans, not-suc-le-zero}
+use native.Mathlib.Omega.{arith}
+use Rattle.booking.specs.Admission.{admission}
+use Rattle.booking.specs.AdmissionLaws.{Admitted, admitted}
+use Rattle.booking.specs.Share.{booked}
+use Rattle.booking.specs.ShareLaws.{period-le-frame}
+use Rattle.clock.specs.declared.Length.{Length}
+use Rattle.clock.specs.Clock.{ticks}
+use Rattle.counting.specs.Tests.{none-of-four}
+use Rattle.dispatcher.specs.Start.{atStart}
+use Rattle.dispatcher.specs.StartLaws.{Bookable, start-within}
+use Rattle.dispatcher.specs.Within.{Within}
+use Rattle.refusal.specs.OneOutcome.{refused≢gave}
+use Rattle.refusal.specs.Refusals.{Said, refused, gave, accepted}
+use Rattle.sizes.specs.Sizes.{mostFrame, mostServers}
+use Rattle.opening.specs.Opening.{listed, misshapen, judged, noServers, opening}
+
+pub judged-misshapen : (l : List ℕ) (H : Length) → misshapen (length l) H ≡ true → judged l H ≡ refused 2 0
+unfolding judged
+judged-misshapen l H e = rw e
+
+pub judged-shaped : (l : List ℕ) (H : Length) → misshapen (length l) H ≡ false → judged l H ≡ admission H (listed l)
+unfolding judged
+judged-shaped l H e = rw e
+
+-- what a list and a frame have that are not refused by 2
+pub record Shaped (numbers : ℕ) (H : Length) : Type 0 where
+  pub from : 1 ≤ H .ticks
+  pub to : H .ticks ≤ mostFrame
+  pub few : numbers / 2 ≤ mostServers
+  pub even : numbers % 2 ≡ 0
+
+pub shaped : (numbers : ℕ) (H : Length) → misshapen numbers H ≡ false → Shaped numbers H
+shaped numbers H e =
+    let tests = none-of-four (ltb (H .ticks) 1) _ _ _ e in
+    record {
+      from = ltb-false _ _ (tests .0);
+      to = ltb-false _ _ (tests .1);
+      few = ltb-false _ _ (tests .2);
+      even = eqb-true _ _ (not-false _ (tests .3));
+    }
+
+-- what an accepted table is
+pub accepted-shaped : (l : List ℕ) (H : Length) → judged l H ≡ accepted → Shaped (length l) H
+accepted-shaped l H e = go (misshapen (length l) H) refl
+  where
+    go : (m : Bool) → misshapen (length l) H ≡ m → Shaped (length l) H
+    go true m = absurd (refused≢gave (sym (judged-misshapen l H m) ∙ e))
+    go false m = shaped (length l) H m
+
+pub accepted-admitted : (l : List ℕ) (H : Length) → judged l H ≡ accepted → Admitted H (listed l)
+accepted-admitted l H e = go (misshapen (length l) H) refl
+  where
+    go : (m : Bool) → misshapen (length l) H ≡ m → Admitted H (listed l)
+    go true m = absurd (refused≢gave (sym (judged-misshapen l H m) ∙ e))
+    go false m = admitted H (listed l) (sym (judged-shaped l H m) ∙ e)
+
+pub opening-accepted : (l : List ℕ) (H : Length) → judged l H ≡ accepted
+    → opening l H ≡ record { answer = accepted; dispatcher = atStart H (listed l) }
+unfolding opening
+opening-accepted l H e = rw e
+
+pub opening-refused : (l : List ℕ) (H : Length) (number place : ℕ) → judged l H ≡ refused number place
+    → opening l H ≡ record { answer = refused number place; dispatcher = noServers }
+unfolding opening
+opening-refused l H number place e = rw e
+
+-- every opening, a refused one too, lands within the ranges
+noServers-within : Within noServers
+noServers-within =
+    start-within (ticks 1) (record { count = 0; booking = λ k. booked 0 0 }) (omega arith) (omega arith) (omega arith)
+    (λ k h. absurd (not-suc-le-zero h))
+
+pub opening-within : (l : List ℕ) (H : Length) → Within (opening l H .dispatcher)
+opening-within l H = go (judged l H) refl
+  where
+    bookable : judged l H ≡ accepted → (k : ℕ) → k < length l / 2 → Bookable (listed l .booking k)
+    bookable e k h =
+        let good = accepted-admitted l H e .sound k h in
+        let shape = accepted-shaped l H e in
+        record {
+          budget = good .budget;
+          fits = good .fits;
+          period = le-trans (period-le-frame H (listed l .booking k) good (shape .from)) (shape .to);
+        }
+
+    go : (s : Said (Unit {0})) → judged l H ≡ s → Within (opening l H .dispatcher)
+    go (refused number place) e = rw (opening-refused l H number place e) noServers-within
+    go (gave u) e =
+        let shape = accepted-shaped l H e in
+        rw (opening-accepted l H e) (start-within H (listed l) (shape .from) (shape .to) (shape .few) (bookable e))

@@ -1,0 +1,145 @@
+// Opening a live table: a lent list of Q, T pairs and the frame H become a dispatcher, or are refused by number and place.
+ghost use mathlib.Core.Path.{_≡_};
+ghost use Prim.Native.Nat.{_+_, _*_, _/_, _≤_, _<_};
+ghost use lib.ListN.{length};
+ghost use Rattle.booking.specs.Admission.{admission};
+ghost use Rattle.booking.specs.Share.{weighed};
+ghost use Rattle.dispatcher.specs.Start.{atStart};
+ghost use Rattle.dispatcher.specs.Within.{Within};
+ghost use Rattle.refusal.specs.Refusals.{onPaper};
+ghost use Rattle.sizes.specs.Sizes.{mostServers};
+ghost use Rattle.opening.specs.Opening.{listed, misshapen, judged, opening, openingSays, noServers};
+ghost use Rattle.opening.specs.OpeningLaws.{Shaped};
+use booking::Booking;
+use booking::Weighed;
+use clock::Length;
+use clock::Moment;
+use dispatcher::Dispatcher;
+use refusal::Refusal;
+use refusal::Verdict;
+use server::Server;
+
+pub struct Opened {
+    pub answer: Verdict,
+    pub dispatcher: Dispatcher,
+}
+
+// The dispatcher of a table, at its start, or a refusal and a dispatcher with no servers.
+pub fn open_table(table: &[u64], frame: Length) -> Opened
+    ensures { λ r. ⌜ openingSays r ≡ opening (now (table .entry)) frame ⌝ }
+    ensures { λ r. ⌜ Within (r .dispatcher) ⌝ }
+{
+    let verdict = judge(table, frame);
+    match verdict {
+        Verdict::Accepted => Opened {
+            answer: Verdict::Accepted,
+            dispatcher: start(table, frame),
+        },
+        Verdict::Refused(why) => Opened {
+            answer: Verdict::Refused(why),
+            dispatcher: nobody(),
+        },
+    }
+}
+
+// 2, then admission.
+fn judge(table: &[u64], frame: Length) -> Verdict
+    ensures { λ r. ⌜ onPaper r ≡ judged (now (table .entry)) frame ⌝ }
+{
+    if is_misshapen(table.len(), frame) {
+        return Verdict::Refused(Refusal::Sizes);
+    }
+    admit(table, frame)
+}
+
+// 4 at the first faulty server, then 5.
+fn admit(table: &[u64], frame: Length) -> Verdict
+    requires { ⌜ Shaped (length (now table)) frame ⌝ }
+    ensures { λ r. ⌜ onPaper r ≡ admission frame (listed (now (table .entry))) ⌝ }
+{
+    let count = table.len() / 2;
+    let mut sum = 0;
+    let mut k = 0;
+    while k < count {
+        let Weighed::Share(share) = weigh_at(table, k, frame) else {
+            return Verdict::Refused(Refusal::FaultyServer(k));
+        };
+        sum += share.ticks;
+        k += 1;
+    }
+    if frame.ticks < sum {
+        return Verdict::Refused(Refusal::Shares);
+    }
+    Verdict::Accepted
+}
+
+// What the k-th pair weighs.
+fn weigh_at(table: &[u64], k: usize, frame: Length) -> Weighed
+    requires { ⌜ 2 * k + 1 < length (now table) ⌝ }
+    ensures { λ r. ⌜ r ≡ weighed frame (listed (now (table .entry)) .booking k) ⌝ }
+{
+    booking::weigh(frame, booking_at(table, k))
+}
+
+// Whether the frame, the count of numbers or the count of servers is out of range.
+fn is_misshapen(numbers: usize, frame: Length) -> bool
+    ensures { λ r. ⌜ r ≡ misshapen numbers frame ⌝ }
+{
+    let h = frame.ticks;
+    if h < 1 {
+        return true;
+    }
+    if sizes::MOST_FRAME < h {
+        return true;
+    }
+    if sizes::MOST_SERVERS < numbers / 2 {
+        return true;
+    }
+    numbers % 2 != 0
+}
+
+// The k-th pair.
+fn booking_at(table: &[u64], k: usize) -> Booking
+    requires { ⌜ 2 * k + 1 < length (now table) ⌝ }
+    ensures { λ r. ⌜ r ≡ listed (now (table .entry)) .booking k ⌝ }
+{
+    let at = 2 * k;
+    Booking {
+        budget: Length { ticks: table[at] },
+        period: Length {
+            ticks: table[at + 1],
+        },
+    }
+}
+
+// The table's dispatcher at its start.
+fn start(table: &[u64], frame: Length) -> Dispatcher
+    requires { ⌜ length (now table) / 2 ≤ mostServers ⌝ }
+    ensures { λ r. ⌜ r ≡ atStart frame (listed (now (table .entry))) ⌝ }
+{
+    let count = table.len() / 2;
+    let mut servers = [server::blank(); sizes::MOST_SERVERS];
+    let mut k = 0;
+    while k < count {
+        servers[k] = server::fresh(booking_at(table, k));
+        k += 1;
+    }
+    Dispatcher {
+        frame,
+        count,
+        clock: Moment { tick: 0 },
+        servers,
+    }
+}
+
+// What a refused opening hands back.
+fn nobody() -> Dispatcher
+    ensures { λ r. ⌜ r ≡ noServers ⌝ }
+{
+    Dispatcher {
+        frame: Length { ticks: 1 },
+        count: 0,
+        clock: Moment { tick: 0 },
+        servers: [server::blank(); sizes::MOST_SERVERS],
+    }
+}
