@@ -9,7 +9,7 @@ use Rattle.clock.specs.declared.Length.{Length}
 use Rattle.counting.specs.Below.{below-suc}
 use Rattle.counting.specs.First.{first-is, first-none, first-before}
 use Rattle.counting.specs.Sum.{sum as total, sum-le}
-use Rattle.refusal.specs.OneOutcome.{refused≢gave}
+use Rattle.refusal.specs.Told.{refused≢gave}
 use Rattle.refusal.specs.Refusals.{refused, accepted}
 use Rattle.booking.specs.declared.Weighed.the-variants.{Faulty, Share}
 use Rattle.booking.specs.Admission.{Table, firstFaulty, shares, admission}

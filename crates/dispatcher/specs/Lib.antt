@@ -4,4 +4,5 @@ pub mod Pick
 pub mod PickLaws
 pub mod Start
 pub mod StartLaws
+pub mod Told
 pub mod Within

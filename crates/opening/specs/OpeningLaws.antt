@@ -18,7 +18,7 @@ use Rattle.counting.specs.Tests.{none-of-four}
 use Rattle.dispatcher.specs.Start.{atStart}
 use Rattle.dispatcher.specs.StartLaws.{Bookable, start-within}
 use Rattle.dispatcher.specs.Within.{Within}
-use Rattle.refusal.specs.OneOutcome.{refused≢gave}
+use Rattle.refusal.specs.Told.{refused≢gave}
 use Rattle.refusal.specs.Refusals.{Said, refused, gave, accepted}
 use Rattle.sizes.specs.Sizes.{mostFrame, mostServers}
 use Rattle.opening.specs.Opening.{listed, misshapen, judged, noServers, opening}

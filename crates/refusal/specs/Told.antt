@@ -9,12 +9,8 @@ use Rattle.refusal.specs.declared.Verdict.{Verdict}
 use Rattle.refusal.specs.declared.Verdict.the-variants.{Accepted, Refused}
 use Rattle.refusal.specs.Refusals.{numberOf, placeOf, Said, refused, gave, onPaper}
 
--- whatever a promise `r ≡ x` allows is x, so two answers that it allows are equal
-pub one-outcome {ℓ} : {A : Type ℓ} {x r s : A} → r ≡ x → s ≡ x → r ≡ s
-one-outcome p q = p ∙ sym q
-
 -- the refusal of a number at a place
-refusalOf : ℕ → ℕ → Refusal
+pub refusalOf : ℕ → ℕ → Refusal
 refusalOf n k =
     cond (eqb n 4) (FaultyServer k)
     (cond (eqb n 5) Shares
@@ -22,7 +18,7 @@ refusalOf n k =
     (cond (eqb n 10) ClockEnd
     (cond (eqb n 11) WaitingWork Sizes))))
 
-refusal-back : (r : Refusal) → refusalOf (numberOf r) (placeOf r) ≡ r
+pub refusal-back : (r : Refusal) → refusalOf (numberOf r) (placeOf r) ≡ r
 unfolding refusalOf
 refusal-back Sizes = refl
 refusal-back (FaultyServer k) = refl

@@ -1,0 +1,6 @@
+-- Each promise of this crate allows one outcome.
+use Rattle.outcome.specs.OneOutcome.{OneOutcome, both-are}
+use Rattle.arrival.proofs.is_faulty.Reads as is-faulty
+
+pub is-faulty-one : OneOutcome is-faulty.Post
+is-faulty-one l a x y at-x at-y p q = both-are p q

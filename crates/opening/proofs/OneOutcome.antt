@@ -1,0 +1,10 @@
+-- The promise of this crate allows one outcome: what is said on paper tells the verdict, and the dispatcher is given whole.
+use Rattle.dispatcher.specs.Told.{moved-told}
+use Rattle.outcome.specs.OneOutcome.{OneOutcome, both-are}
+use Rattle.refusal.specs.Refusals.{onPaper}
+use Rattle.refusal.specs.Told.{verdict-told}
+use Rattle.opening.proofs.open_table.Reads as open-table
+
+pub open-table-one : OneOutcome open-table.Post
+open-table-one l a x y at-x at-y p q =
+    moved-told onPaper verdict-told (λ v d. record { answer = v; dispatcher = d }) _ _ _ _ (both-are (p .0) (q .0))

@@ -1,0 +1,10 @@
+-- Each promise of this crate allows one outcome.
+use Rattle.outcome.specs.OneOutcome.{OneOutcome, both-are}
+use Rattle.server.proofs.fresh.Reads as fresh
+use Rattle.server.proofs.blank.Reads as blank
+
+pub fresh-one : OneOutcome fresh.Post
+fresh-one l a x y at-x at-y p q = both-are p q
+
+pub blank-one : OneOutcome blank.Post
+blank-one l a x y at-x at-y p q = both-are p q
