@@ -1,0 +1,46 @@
+-- `live_moves::ticks` meets its promise: every turn's dispatcher is within the ranges, as the tick promises.
+use borrow.Author.Needs.{needs}
+use Rattle.dispatcher.specs.Within.{Within}
+use Rattle.live_moves.proofs.ticks.Statement.{statement}
+use Rattle.live_moves.proofs.ticks.Tie as tie
+
+abbrev Inv-loop : tie.InvT-loop
+Inv-loop times said at₀ left₀ at left = Within at
+
+abbrev μ-loop : tie.MeasureT-loop
+μ-loop times said at₀ left₀ at left = left
+
+loop-holds : tie.Need-loop-holds Inv-loop μ-loop
+loop-holds c = search needs
+
+tick-requires : tie.Need-tick-requires Inv-loop μ-loop
+tick-requires c κs = search needs
+
+tick-requires-2 : tie.Need-tick-requires-2 Inv-loop μ-loop
+tick-requires-2 c κs = search needs
+
+sub-left : tie.Need-sub-left Inv-loop μ-loop
+sub-left c = search needs
+
+loop-less : tie.Need-loop-less Inv-loop μ-loop
+loop-less c = search needs
+
+loop-again : tie.Need-loop-again Inv-loop μ-loop
+loop-again c = search needs
+
+returns : tie.Need-returns Inv-loop μ-loop
+returns c = search needs
+
+pub ticks-spec : {M : Type 1} → statement M
+ticks-spec =
+    tie.close
+    (tie.spec
+    Inv-loop
+    μ-loop
+    loop-holds
+    tick-requires
+    tick-requires-2
+    sub-left
+    loop-less
+    loop-again
+    returns)
