@@ -71,11 +71,11 @@ pub fn arrival(d: Dispatcher, server: usize, cost: Length) -> Arrived
             dispatcher: d,
         };
     }
-    let mut next = d;
-    next.servers[server] = taking::take(s, now, cost);
+    let mut taken = d;
+    taken.servers[server] = taking::take(s, now, cost);
     Arrived {
         answer: Verdict::Accepted,
-        dispatcher: next,
+        dispatcher: taken,
     }
 }
 
@@ -97,11 +97,11 @@ pub fn tick(d: Dispatcher) -> Ticked
     if i < count {
         return run(d, i);
     }
-    let mut next = d;
-    next.clock = clock::later(now, Length { ticks: 1 });
+    let mut idled = d;
+    idled.clock = clock::later(now, Length { ticks: 1 });
     Ticked {
         answer: TickAnswer::Idle,
-        dispatcher: next,
+        dispatcher: idled,
     }
 }
 

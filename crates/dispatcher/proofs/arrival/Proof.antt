@@ -72,8 +72,8 @@ take-requires c κs =
 mul-t14 : tie.Need-mul-t14
 mul-t14 c = omega (arith, below (c .before .before .before .before))
 
-element-set-from-next : tie.Need-element-set-from-next
-element-set-from-next c = below (c .before .before .before .before)
+element-set-from-taken : tie.Need-element-set-from-taken
+element-set-from-taken c = below (c .before .before .before .before)
 
 returns-3 : tie.Need-returns-3
 returns-3 c =
@@ -92,5 +92,5 @@ arrival-spec =
     returns-2
     take-requires
     mul-t14
-    element-set-from-next
+    element-set-from-taken
     returns-3)
