@@ -1,6 +1,6 @@
 -- Each promise of this crate allows one outcome.
 use Rattle.outcome.specs.OneOutcome.{OneOutcome, both-are}
-use Rattle.booking.proofs.weigh.Reads as weigh
+use Rattle.booking.proofs.share_of.Reads as share-of
 
-pub weigh-one : OneOutcome weigh.Post
-weigh-one l a x y at-x at-y p q = both-are p q
+pub share-of-one : OneOutcome share-of.Post
+share-of-one l a x y at-x at-y p q = both-are p q

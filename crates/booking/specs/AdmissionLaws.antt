@@ -8,63 +8,67 @@ use native.Mathlib.Nat.{le-refl, le-trans, not-suc-le-zero}
 use Rattle.clock.specs.declared.Length.{Length}
 use Rattle.counting.specs.Below.{below-suc}
 use Rattle.counting.specs.First.{first-is, first-none, first-before}
-use Rattle.counting.specs.Sum.{sum as total, sum-le}
+use Rattle.counting.specs.Sum.{sum, sum-le}
 use Rattle.refusal.specs.Told.{refused≢gave}
 use Rattle.refusal.specs.Refusals.{refused, accepted}
-use Rattle.booking.specs.declared.Weighed.the-variants.{Faulty, Share}
 use Rattle.booking.specs.Admission.{Table, firstFaulty, shares, admission}
-use Rattle.booking.specs.Share.{faulty, share, weighed}
-use Rattle.booking.specs.ShareLaws.{Sound, sound, share-le-frame, weighed-faulty, weighed-sound, weighed-share}
+use Rattle.booking.specs.Share.{faulty, share, shareOf}
+use Rattle.booking.specs.ShareLaws.{Sound, sound, share-le-frame, shareOf-faulty, shareOf-share}
 
 module _ (H : Length) (t : Table) where
   -- none of the first k servers is faulty
   abbrev pub NoneFaulty : ℕ → Type 0
   NoneFaulty k = (j : ℕ) → j < k → faulty H (t .booking j) ≡ false
 
-  -- Servers weighed one after the other: none of the first k was faulty, and their shares add up to `sum`.
-  pub record Weighing (k sum : ℕ) : Type 0 where
+  -- One server after the other: none of the first k is faulty, and their shares add up to `added`.
+  pub record Sofar (k added : ℕ) : Type 0 where
     pub none : NoneFaulty k
-    pub shares : sum ≡ total k (λ j. share H (t .booking j) .ticks)
+    pub added-is : added ≡ sum k (λ j. share H (t .booking j) .ticks)
 
-  pub weighing-none : Weighing 0 0
-  unfolding total
-  weighing-none = record { none = λ j b. absurd (not-suc-le-zero b); shares = refl }
+  pub sofar-none : Sofar 0 0
+  unfolding sum
+  sofar-none = record { none = λ j b. absurd (not-suc-le-zero b); added-is = refl }
 
-  pub weighing-more : {k sum : ℕ} {x : Length} → Weighing k sum → weighed H (t .booking k) ≡ Share x → Weighing (suc k) (sum + x .ticks)
-  unfolding total
-  weighing-more {k} {sum} {x} w e =
+  pub sofar-more : {k added : ℕ} → Sofar k added → shareOf H (t .booking k) .faulty ≡ false
+      → Sofar (suc k) (added + shareOf H (t .booking k) .share .ticks)
+  unfolding sum
+  sofar-more {k} {added} s e =
+      let f : faulty H (t .booking k) ≡ false = sym (shareOf-faulty H (t .booking k)) ∙ e in
       record {
-        none = below-suc (λ (j : ℕ). faulty H (t .booking j) ≡ false) k (w .none) (weighed-sound H (t .booking k) e);
-        shares = rw (w .shares, weighed-share H (t .booking k) e);
+        none = below-suc (λ (j : ℕ). faulty H (t .booking j) ≡ false) k (s .none) f;
+        added-is = rw (s .added-is, shareOf-share H (t .booking k) f);
       }
 
   -- k shares are at most k times the frame
-  pub weighing-le : {k sum : ℕ} → Weighing k sum → sum ≤ k * H .ticks
-  weighing-le {k} {sum} w =
-      rw (w .shares)
+  pub sofar-le : {k added : ℕ} → Sofar k added → added ≤ k * H .ticks
+  sofar-le {k} {added} s =
+      rw (s .added-is)
       (sum-le k (H .ticks) (λ j. share H (t .booking j) .ticks)
-      (λ j b. share-le-frame H (t .booking j) (sound H (t .booking j) (w .none j b) .fits)))
+      (λ j b. share-le-frame H (t .booking j) (sound H (t .booking j) (s .none j b) .fits)))
 
   -- 4 at the first that is faulty
-  pub weighing-faulty : {k sum : ℕ} → Weighing k sum → k < t .count → weighed H (t .booking k) ≡ Faulty → admission H t ≡ refused 4 k
-  weighing-faulty {k} {sum} w h e =
-      rw (first-is (t .count) (λ j. faulty H (t .booking j)) k h (weighed-faulty H (t .booking k) e) (w .none), lt-ltb _ _ h)
-
-  -- after all of them 5, or admission
-  pub weighing-over : {sum : ℕ} → Weighing (t .count) sum → H .ticks < sum → admission H t ≡ refused 5 0
-  weighing-over w h =
+  pub sofar-faulty : {k added : ℕ} → Sofar k added → k < t .count → shareOf H (t .booking k) .faulty ≡ true → admission H t ≡ refused 4 k
+  sofar-faulty {k} {added} s h e =
       rw (
-        first-none (t .count) (λ j. faulty H (t .booking j)) (w .none),
-        le-ltb _ _ (le-refl (t .count)),
-        lt-ltb _ _ (rw (w .shares) at h),
+        first-is (t .count) (λ j. faulty H (t .booking j)) k h (sym (shareOf-faulty H (t .booking k)) ∙ e) (s .none),
+        lt-ltb _ _ h,
       )
 
-  pub weighing-whole : {sum : ℕ} → Weighing (t .count) sum → sum ≤ H .ticks → admission H t ≡ accepted
-  weighing-whole w h =
+  -- after all of them 5, or admission
+  pub sofar-over : {added : ℕ} → Sofar (t .count) added → H .ticks < added → admission H t ≡ refused 5 0
+  sofar-over s h =
       rw (
-        first-none (t .count) (λ j. faulty H (t .booking j)) (w .none),
+        first-none (t .count) (λ j. faulty H (t .booking j)) (s .none),
         le-ltb _ _ (le-refl (t .count)),
-        le-ltb _ _ (rw (w .shares) at h),
+        lt-ltb _ _ (rw (s .added-is) at h),
+      )
+
+  pub sofar-whole : {added : ℕ} → Sofar (t .count) added → added ≤ H .ticks → admission H t ≡ accepted
+  sofar-whole s h =
+      rw (
+        first-none (t .count) (λ j. faulty H (t .booking j)) (s .none),
+        le-ltb _ _ (le-refl (t .count)),
+        le-ltb _ _ (rw (s .added-is) at h),
       )
 
   -- what admission gives

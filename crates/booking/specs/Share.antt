@@ -1,12 +1,11 @@
 -- A booking's faults and its share (document 01, refusal 4 and "The share of a server").
 use Prim.Native.Nat.{ℕ, _*_, _/_, _%_}
 use lib.Dec.{eqb, ltb}
-use mathlib.Core.Bool.{Bool, cond, not, _||_}
+use mathlib.Core.Bool.{Bool, true, false, cond, not, _||_}
 use Rattle.clock.specs.declared.Length.{Length}
 use Rattle.clock.specs.Clock.{ticks}
 use Rattle.booking.specs.declared.Booking.{Booking}
-use Rattle.booking.specs.declared.Weighed.{Weighed}
-use Rattle.booking.specs.declared.Weighed.the-variants.{Faulty, Share}
+use Rattle.booking.specs.declared.Share.{Share}
 
 -- the booking of Q in every T
 abbrev pub booked : ℕ → ℕ → Booking
@@ -24,6 +23,7 @@ faulty H b =
 abbrev pub share : Length → Booking → Length
 share H b = ticks (b .budget .ticks * (H .ticks / b .period .ticks))
 
--- what weighing answers: that the booking is faulty, or else its share
-abbrev pub weighed : Length → Booking → Weighed
-weighed H b = cond (faulty H b) Faulty (Share (share H b))
+-- whether a booking is faulty, and its share where it is not
+abbrev pub shareOf : Length → Booking → Share
+shareOf H b =
+    cond (faulty H b) (record { faulty = true; share = ticks 0 }) (record { faulty = false; share = share H b })

@@ -3,14 +3,13 @@ use Prim.Native.Nat.{ℕ, zero, suc, _*_, _/_, _%_, _≤_}
 use borrow.Author.Tests.{eqb-true, eqb-false, ltb-false, not-false}
 use lib.Dec.{eqb}
 use mathlib.Core.Bool.{Bool, true, false}
-use mathlib.Core.Path.{_≡_, refl}
+use mathlib.Core.Path.{_≡_, refl, ap}
 use native.Mathlib.Nat.{mul-le-mul-right, mul-div-le, pos-of-ne-zero, div-add-mod}
 use native.Mathlib.Omega.{arith}
 use Rattle.clock.specs.declared.Length.{Length}
 use Rattle.counting.specs.Tests.{none-of-four}
 use Rattle.booking.specs.declared.Booking.{Booking}
-use Rattle.booking.specs.declared.Weighed.the-variants.{Faulty, Share}
-use Rattle.booking.specs.Share.{faulty, share, weighed}
+use Rattle.booking.specs.Share.{faulty, share, shareOf}
 
 -- what a booking without a fault has
 pub record Sound (H : Length) (b : Booking) : Type 0 where
@@ -28,12 +27,18 @@ sound H b e =
       divides = omega (arith, div-add-mod (H .ticks) (b .period .ticks));
     }
 
--- "every T divides H", so with Q at most T a share is at most the frame
+-- Where every T divides H the share is exact: share × T = Q × H. So the sum of the shares is at most H just where the sum of Q/T is at
+-- most 1.
+pub share-exact : (H : Length) (b : Booking) → Sound H b → share H b .ticks * b .period .ticks ≡ b .budget .ticks * H .ticks
+share-exact H b s =
+    omega (arith, ap (λ (h : ℕ). b .budget .ticks * h) (s .divides))
+
+-- with Q at most T a share is at most the frame
 pub share-le-frame : (H : Length) (b : Booking) → b .budget .ticks ≤ b .period .ticks → share H b .ticks ≤ H .ticks
 share-le-frame H b h =
     omega (arith, mul-le-mul-right (H .ticks / b .period .ticks) h, mul-div-le (H .ticks) (b .period .ticks))
 
--- and so is its period
+-- a period that divides the frame is at most the frame
 pub period-le-frame : (H : Length) (b : Booking) → Sound H b → 1 ≤ H .ticks → b .period .ticks ≤ H .ticks
 period-le-frame H b s h = go (H .ticks / b .period .ticks) (s .divides)
   where
@@ -41,20 +46,13 @@ period-le-frame H b s h = go (H .ticks / b .period .ticks) (s .divides)
     go zero e = let no : ⊥ = omega arith in absurd no
     go (suc times) e = omega arith
 
--- what weighing tells
-pub weighed-faulty : (H : Length) (b : Booking) → weighed H b ≡ Faulty → faulty H b ≡ true
-weighed-faulty H b e = go (faulty H b) refl
+-- what the answer tells
+pub shareOf-faulty : (H : Length) (b : Booking) → shareOf H b .faulty ≡ faulty H b
+shareOf-faulty H b = go (faulty H b) refl
   where
-    go : (f : Bool) → faulty H b ≡ f → faulty H b ≡ true
-    go true f = f
-    go false f = let whole : weighed H b ≡ Share (share H b) = rw f in cc
+    go : (f : Bool) → faulty H b ≡ f → shareOf H b .faulty ≡ faulty H b
+    go true f = rw f
+    go false f = rw f
 
-pub weighed-sound : (H : Length) (b : Booking) {x : Length} → weighed H b ≡ Share x → faulty H b ≡ false
-weighed-sound H b e = go (faulty H b) refl
-  where
-    go : (f : Bool) → faulty H b ≡ f → faulty H b ≡ false
-    go true f = let none : weighed H b ≡ Faulty = rw f in cc
-    go false f = f
-
-pub weighed-share : (H : Length) (b : Booking) {x : Length} → weighed H b ≡ Share x → x ≡ share H b
-weighed-share H b e = let whole : weighed H b ≡ Share (share H b) = rw (weighed-sound H b e) in cc
+pub shareOf-share : (H : Length) (b : Booking) → faulty H b ≡ false → shareOf H b .share ≡ share H b
+shareOf-share H b f = rw f

@@ -1,6 +1,7 @@
-// A booking, Q ticks in every T, judged against the frame: whether it is faulty, and else its share of the frame.
+// A booking, Q ticks in every T, against the frame: whether it is faulty, and its share where it is not.
 ghost use mathlib.Core.Path.{_≡_};
-ghost use Rattle.booking.specs.Share.{weighed};
+ghost use Rattle.clock.specs.Clock.{ticks};
+ghost use Rattle.booking.specs.Share.{booked, faulty, shareOf};
 use clock::Length;
 
 pub struct Booking {
@@ -10,31 +11,43 @@ pub struct Booking {
     pub period: Length,
 }
 
-pub enum Weighed {
-    Faulty,
-    Share(Length),
+pub struct Share {
+    pub faulty: bool,
+    // Of a faulty booking 0.
+    pub share: Length,
 }
 
-// The booking's share of the frame. A booking that is not faulty has Q at most T and T dividing H, so its share is at most H,
-// and nothing here can overflow.
-pub fn weigh(frame: Length, b: Booking) -> Weighed
-    ensures { λ r. ⌜ r ≡ weighed frame b ⌝ }
+// The booking's share of the frame. A booking without a fault has Q at most T, so its share is at most H, and nothing here can
+// overflow.
+pub fn share_of(frame: Length, b: Booking) -> Share
+    ensures { λ r. ⌜ r ≡ shareOf frame b ⌝ }
 {
     let h = frame.ticks;
     let q = b.budget.ticks;
     let t = b.period.ticks;
+    if is_faulty(h, q, t) {
+        return Share {
+            faulty: true,
+            share: Length { ticks: 0 },
+        };
+    }
+    Share {
+        faulty: false,
+        share: Length { ticks: q * (h / t) },
+    }
+}
+
+fn is_faulty(h: u64, q: u64, t: u64) -> bool
+    ensures { λ r. ⌜ r ≡ faulty (ticks h) (booked q t) ⌝ }
+{
     if t == 0 {
-        return Weighed::Faulty;
+        return true;
     }
     if h % t != 0 {
-        return Weighed::Faulty;
+        return true;
     }
     if q == 0 {
-        return Weighed::Faulty;
+        return true;
     }
-    if t < q {
-        return Weighed::Faulty;
-    }
-    let share = Length { ticks: q * (h / t) };
-    Weighed::Share(share)
+    t < q
 }

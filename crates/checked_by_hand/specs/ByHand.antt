@@ -15,7 +15,7 @@ pub data Example : Type 0 where
   -- a frame and a table of Q, T pairs: the sum of the shares
   adding : (H : ℕ) → (table : List ℕ) → (sum : ℕ) → Example
   -- and the answer to it
-  opening : (H : ℕ) → (table : List ℕ) → Said (Unit {0}) → Example
+  judging : (H : ℕ) → (table : List ℕ) → Said (Unit {0}) → Example
 
 -- an idle server
 abbrev pub idleServer : (Q T c d : ℕ) → Server
@@ -32,7 +32,7 @@ idleServer Q T c d =
 abbrev pub Holds : Example → Type 0
 Holds (waking Q T c d t d′ c′) = woken (idleServer Q T c d) (moment t) ≡ idleServer Q T c′ d′
 Holds (adding H table sum) = shares (ticks H) (listed table) ≡ sum
-Holds (opening H table answer) = judged table (ticks H) ≡ answer
+Holds (judging H table answer) = judged table (ticks H) ≡ answer
 
 abbrev pub AllHold : List Example → Type 0
 AllHold [] = Unit {0}
@@ -54,10 +54,10 @@ checkedByHand =
     ∷ waking 2 6 0 0 0 6 2
     -- "(1, 4), (3, 10), (9, 20) is 5 + 6 + 9 = 20, admitted"
     ∷ adding 20 (1 ∷ 4 ∷ 3 ∷ 10 ∷ 9 ∷ 20 ∷ []) 20
-    ∷ opening 20 (1 ∷ 4 ∷ 3 ∷ 10 ∷ 9 ∷ 20 ∷ []) accepted
+    ∷ judging 20 (1 ∷ 4 ∷ 3 ∷ 10 ∷ 9 ∷ 20 ∷ []) accepted
     -- "The last as (10, 20) is 21: refusal 5"
     ∷ adding 20 (1 ∷ 4 ∷ 3 ∷ 10 ∷ 10 ∷ 20 ∷ []) 21
-    ∷ opening 20 (1 ∷ 4 ∷ 3 ∷ 10 ∷ 10 ∷ 20 ∷ []) (refused 5 0)
+    ∷ judging 20 (1 ∷ 4 ∷ 3 ∷ 10 ∷ 10 ∷ 20 ∷ []) (refused 5 0)
     -- "(1, 3): refusal 4"
-    ∷ opening 20 (1 ∷ 3 ∷ []) (refused 4 0)
+    ∷ judging 20 (1 ∷ 3 ∷ []) (refused 4 0)
     ∷ []

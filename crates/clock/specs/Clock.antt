@@ -1,7 +1,7 @@
 -- "A moment on the clock and a length of work or time are kept apart: a deadline is a moment, a budget is a length. Two moments
 -- are never added." (document 01) The clock of these definitions has no end.
 use Prim.Native.Nat.{ℕ, _+_, _-_, _≤_, min}
-use mathlib.Core.Path.{_≡_, refl, ap}
+use mathlib.Core.Path.{_≡_, ap}
 use native.Mathlib.Omega.{arith}
 use Rattle.clock.specs.declared.Length.{Length}
 use Rattle.clock.specs.declared.Moment.{Moment}
@@ -20,10 +20,11 @@ later from by = moment (from .tick + by .ticks)
 abbrev pub until : Moment → Moment → Length
 until from to = ticks (to .tick - from .tick)
 
--- what 64 bits show of a moment: the moment, up to the last one that they can show
+-- the last moment that 64 bits can show
 abbrev pub lastTick : ℕ
 lastTick = 18_446_744_073_709_551_615
 
+-- what 64 bits show of a moment: the moment itself, up to the last one
 abbrev pub shown : Moment → Moment
 shown m = moment (min (m .tick) lastTick)
 

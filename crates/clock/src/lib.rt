@@ -14,7 +14,7 @@ pub struct Length {
 }
 
 // The last moment that 64 bits can show. No dispatcher's clock or deadline comes near it.
-const LAST_TICK: u64 = 18446744073709551615;
+pub const LAST_TICK: u64 = 18446744073709551615;
 
 // The moment that lies `by` after `from`, or the last one that can be shown where that is beyond it.
 pub fn later(from: Moment, by: Length) -> Moment

@@ -1,7 +1,7 @@
 -- The moves case by case, and that every move keeps the dispatcher within its ranges.
 use Prim.Native.Nat.{ℕ, _+_, _-_, _≤_, _<_}
-use borrow.Author.Tests.{eqb-false, leb-false, ltb-true, ltb-false, eq-eqb, ne-eqb, le-leb, lt-leb, lt-ltb, le-ltb}
-use lib.Dec.{leb, ltb}
+use borrow.Author.Tests.{eqb-false, ltb-true, ltb-false, eq-eqb, ne-eqb, lt-ltb, le-ltb}
+use lib.Dec.{eqb, ltb}
 use lib.ListN.{length, length-set, getD}
 use lib.Seq.{getD-set-same, getD-set-other}
 use mathlib.Core.Bool.{Bool, true, false}
@@ -20,41 +20,41 @@ use Rattle.server.specs.Ranges.{Ranged}
 use Rattle.server.specs.Server.{blank, idle}
 use Rattle.sizes.specs.Sizes.{clockEnd, mostWaiting}
 use Rattle.dispatcher.specs.declared.Dispatcher.{Dispatcher}
-use Rattle.dispatcher.specs.Moves.{Moved, refusing, withServer, oneLater, overfull, arrivalTaken, idled, ranOne, ran, ticked}
+use Rattle.dispatcher.specs.Moves.{Moved, refusing, withServer, oneLater, tooMuchWork, arrival, idled, ranOne, ran, tick}
 use Rattle.dispatcher.specs.Pick.{serverAt, picked}
 use Rattle.dispatcher.specs.PickLaws.{picked-earliest}
 use Rattle.dispatcher.specs.Within.{Within}
 
 -- An arrival and a tick case by case.
 module _ (d : Dispatcher) where
-  pub taken-faulty : (i : ℕ) (cost : Length) → faulty (d .count) i cost ≡ true → arrivalTaken d i cost ≡ refusing d 6
-  unfolding arrivalTaken
-  taken-faulty i cost f = rw f
+  pub arrival-faulty : (i : ℕ) (cost : Length) → faulty (d .count) i cost ≡ true → arrival d i cost ≡ refusing d 6
+  unfolding arrival
+  arrival-faulty i cost f = rw f
 
-  pub taken-overfull : (i : ℕ) (cost : Length) → faulty (d .count) i cost ≡ false
-      → mostWaiting < serverAt d i .waiting .ticks + cost .ticks → arrivalTaken d i cost ≡ refusing d 11
-  unfolding arrivalTaken
-  taken-overfull i cost f h = rw (f, lt-ltb _ _ h)
+  pub arrival-too-much : (i : ℕ) (cost : Length) → faulty (d .count) i cost ≡ false
+      → mostWaiting < serverAt d i .waiting .ticks + cost .ticks → arrival d i cost ≡ refusing d 11
+  unfolding arrival
+  arrival-too-much i cost f h = rw (f, lt-ltb _ _ h)
 
-  pub taken-whole : (i : ℕ) (cost : Length) → faulty (d .count) i cost ≡ false
+  pub arrival-whole : (i : ℕ) (cost : Length) → faulty (d .count) i cost ≡ false
       → serverAt d i .waiting .ticks + cost .ticks ≤ mostWaiting
-      → arrivalTaken d i cost
+      → arrival d i cost
       ≡ record { answer = accepted; dispatcher = withServer d i (arrived (serverAt d i) (d .clock) cost) }
-  unfolding arrivalTaken
-  taken-whole i cost f h = rw (f, le-ltb _ _ h)
+  unfolding arrival
+  arrival-whole i cost f h = rw (f, le-ltb _ _ h)
 
-  pub ticked-ended : clockEnd ≤ d .clock .tick → ticked d ≡ refusing d 10
-  unfolding ticked
-  ticked-ended h = rw (le-leb _ _ h)
+  pub tick-ended : d .clock .tick ≡ clockEnd → tick d ≡ refusing d 10
+  unfolding tick
+  tick-ended h = rw (eq-eqb _ _ h)
 
-  pub ticked-ran : d .clock .tick < clockEnd → picked d < d .count → ticked d ≡ ran d (picked d)
-  unfolding ticked
-  ticked-ran h p = rw (lt-leb _ _ h, lt-ltb _ _ p)
+  pub tick-ran : (d .clock .tick ≡ clockEnd → ⊥) → picked d < d .count → tick d ≡ ran d (picked d)
+  unfolding tick
+  tick-ran h p = rw (ne-eqb _ _ h, lt-ltb _ _ p)
 
-  pub ticked-idle : d .clock .tick < clockEnd → d .count ≤ picked d
-      → ticked d ≡ record { answer = gave idled; dispatcher = oneLater d }
-  unfolding ticked
-  ticked-idle h p = rw (lt-leb _ _ h, le-ltb _ _ p)
+  pub tick-idle : (d .clock .tick ≡ clockEnd → ⊥) → d .count ≤ picked d
+      → tick d ≡ record { answer = gave idled; dispatcher = oneLater d }
+  unfolding tick
+  tick-idle h p = rw (ne-eqb _ _ h, le-ltb _ _ p)
 
   -- the last tick of a budget postpones, and no other does
   pub ran-last : (i : ℕ) → serverAt d i .remaining .ticks - 1 ≡ 0
@@ -113,14 +113,14 @@ oneLater-within {d} ok h =
     }
 
 -- an arrival
-pub arrivalTaken-within : {d : Dispatcher} → Within d → (i : ℕ) (cost : Length) → Within (arrivalTaken d i cost .dispatcher)
-unfolding arrivalTaken
-arrivalTaken-within {d} ok i cost = go (faulty (d .count) i cost) refl (overfull d i cost) refl
+pub arrival-within : {d : Dispatcher} → Within d → (i : ℕ) (cost : Length) → Within (arrival d i cost .dispatcher)
+unfolding arrival
+arrival-within {d} ok i cost = go (faulty (d .count) i cost) refl (tooMuchWork d i cost) refl
   where
     known : faulty (d .count) i cost ≡ false → i < d .count
     known f = sound (d .count) i cost f .known
 
-    go : (f : Bool) → faulty (d .count) i cost ≡ f → (o : Bool) → overfull d i cost ≡ o → Within (arrivalTaken d i cost .dispatcher)
+    go : (f : Bool) → faulty (d .count) i cost ≡ f → (o : Bool) → tooMuchWork d i cost ≡ o → Within (arrival d i cost .dispatcher)
     go true f o e = rw f ok
     go false f true e = rw (f, e) ok
     go false f false e =
@@ -136,17 +136,21 @@ ran-within {d} ok h i b w =
     withServer-within (oneLater-within ok h) i b (served (serverAt d i))
     (served-ranged (serverAt d i) (d .clock) (ok .servers i b) (eqb-false _ _ w))
 
+-- a clock within its range that does not stand at its end has a tick left
+pub before-end : {d : Dispatcher} → Within d → (d .clock .tick ≡ clockEnd → ⊥) → d .clock .tick < clockEnd
+before-end ok h = omega (arith, ok .clock)
+
 -- a tick
-pub ticked-within : {d : Dispatcher} → Within d → Within (ticked d .dispatcher)
-unfolding ticked
-ticked-within {d} ok = go (leb clockEnd (d .clock .tick)) refl (ltb (picked d) (d .count)) refl
+pub tick-within : {d : Dispatcher} → Within d → Within (tick d .dispatcher)
+unfolding tick
+tick-within {d} ok = go (eqb (d .clock .tick) clockEnd) refl (ltb (picked d) (d .count)) refl
   where
-    go : (e : Bool) → leb clockEnd (d .clock .tick) ≡ e → (p : Bool) → ltb (picked d) (d .count) ≡ p → Within (ticked d .dispatcher)
+    go : (e : Bool) → eqb (d .clock .tick) clockEnd ≡ e → (p : Bool) → ltb (picked d) (d .count) ≡ p → Within (tick d .dispatcher)
     go true e p q = rw e ok
     go false e true q =
         rw (e, q)
-        (ran-within ok (leb-false _ _ e) (picked d) (ltb-true _ _ q) (picked-earliest d (ltb-true _ _ q) .works))
-    go false e false q = rw (e, q) (oneLater-within ok (leb-false _ _ e))
+        (ran-within ok (before-end ok (eqb-false _ _ e)) (picked d) (ltb-true _ _ q) (picked-earliest d (ltb-true _ _ q) .works))
+    go false e false q = rw (e, q) (oneLater-within ok (before-end ok (eqb-false _ _ e)))
 
 -- what a move hands back, being what its definition gives, is within them
 pub and-within : {A : Type 0} {m n : Moved A} → Within (n .dispatcher) → m ≡ n → (m ≡ n) × Within (m .dispatcher)

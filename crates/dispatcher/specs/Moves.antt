@@ -1,13 +1,12 @@
 -- The two live moves (document 01, "One moment of the clock" and refusals 6, 10 and 11): what each answers, and the dispatcher after it.
 use Prim.Native.Nat.{ℕ, _+_}
-use lib.Dec.{leb, ltb}
+use lib.Dec.{eqb, ltb}
 use lib.ListN.{set}
 use mathlib.Core.Bool.{Bool, cond}
 use Rattle.arrival.specs.Arrival.{faulty}
 use Rattle.clock.specs.declared.Length.{Length}
 use Rattle.clock.specs.declared.Moment.{Moment}
 use Rattle.clock.specs.Clock.{later, ticks}
-use Rattle.refusal.specs.declared.Verdict.{Verdict}
 use Rattle.refusal.specs.Refusals.{numberOf, placeOf, Said, refused, gave, accepted, onPaper}
 use Rattle.server.specs.declared.Server.{Server}
 use Rattle.server.specs.Moves.{arrived, oneTickLess, spent, served}
@@ -23,10 +22,6 @@ use Rattle.dispatcher.specs.Pick.{serverAt, picked}
 pub record Moved (A : Type 0) : Type 0 where
   pub answer : Said A
   pub dispatcher : Dispatcher
-
--- "a refused move hands back the dispatcher unchanged"; the place is 0 in both moves
-abbrev pub refusing : {A : Type 0} → Dispatcher → ℕ → Moved A
-refusing d number = record { answer = refused number 0; dispatcher = d }
 
 -- the dispatcher with another server at place i
 abbrev pub withServer : Dispatcher → ℕ → Server → Dispatcher
@@ -48,29 +43,35 @@ oneLater d =
       servers = d .servers;
     }
 
--- An arrival: 6, then 11, or else step 1 at its server.
+-- a refusal "changes no dispatcher"; its place is 0 in both moves
+abbrev pub refusing : {A : Type 0} → Dispatcher → ℕ → Moved A
+refusing d number = record { answer = refused number 0; dispatcher = d }
+
+-- An arrival.
 
 -- 11: "a live arrival would take its server's waiting work above 4,294,967,295"
-abbrev pub overfull : Dispatcher → ℕ → Length → Bool
-overfull d i cost = ltb mostWaiting (serverAt d i .waiting .ticks + cost .ticks)
+abbrev pub tooMuchWork : Dispatcher → ℕ → Length → Bool
+tooMuchWork d i cost = ltb mostWaiting (serverAt d i .waiting .ticks + cost .ticks)
 
-unfoldable pub arrivalTaken : Dispatcher → ℕ → Length → Moved (Unit {0})
-arrivalTaken d i cost =
+-- "A live arrival gives 6 (place 0) or 11, in that order." Otherwise it is accepted, and its server goes through step 1.
+unfoldable pub arrival : Dispatcher → ℕ → Length → Moved (Unit {0})
+arrival d i cost =
     cond (faulty (d .count) i cost) (refusing d 6)
-    (cond (overfull d i cost) (refusing d 11)
+    (cond (tooMuchWork d i cost) (refusing d 11)
     (record { answer = accepted; dispatcher = withServer d i (arrived (serverAt d i) (d .clock) cost) }))
 
+-- what the struct that an arrival answers says
 abbrev pub arrivalSays : Arrived → Moved (Unit {0})
 arrivalSays r = record { answer = onPaper (r .answer); dispatcher = r .dispatcher }
 
--- A tick: 10, or else steps 2 to 4.
+-- A tick.
 
 -- "A tick answers idle, or the server, the deadline it ran under and whether it postponed."
 pub data Turn : Type 0 where
   idled : Turn
   ranOne : (server : ℕ) (deadline : Moment) (postponed : Bool) → Turn
 
--- step 3 at server i, then step 4
+-- server i runs: step 3 at it, then step 4. The deadline is "the one in force before step 3".
 unfoldable pub ran : Dispatcher → ℕ → Moved Turn
 ran d i =
     record {
@@ -78,17 +79,20 @@ ran d i =
       dispatcher = oneLater (withServer d i (served (serverAt d i)));
     }
 
--- 10: "a live tick when the clock stands at 2,419,200"
-unfoldable pub ticked : Dispatcher → Moved Turn
-ticked d =
-    cond (leb clockEnd (d .clock .tick)) (refusing d 10)
+-- 10: "a live tick when the clock stands at 2,419,200". Otherwise the server that step 2 picks runs; "If there is none, the tick is
+-- idle", and only step 4 is left.
+unfoldable pub tick : Dispatcher → Moved Turn
+tick d =
+    cond (eqb (d .clock .tick) clockEnd) (refusing d 10)
     (cond (ltb (picked d) (d .count)) (ran d (picked d))
     (record { answer = gave idled; dispatcher = oneLater d }))
 
+-- what each case of a tick's answer says
 abbrev pub turnOf : TickAnswer → Said Turn
 turnOf Idle = gave idled
 turnOf (Ran i deadline postponed) = gave (ranOne i deadline postponed)
 turnOf (Refused r) = refused (numberOf r) (placeOf r)
 
+-- what the struct that a tick answers says
 abbrev pub tickSays : Ticked → Moved Turn
 tickSays r = record { answer = turnOf (r .answer); dispatcher = r .dispatcher }

@@ -14,11 +14,11 @@ abbrev pub serverAt : Dispatcher → ℕ → Server
 serverAt d i = getD (d .servers) i blank
 
 -- server i has work, and no server with work has an earlier deadline
-unfoldable pub earliest : Dispatcher → ℕ → Bool
-earliest d i =
+unfoldable pub mayRun : Dispatcher → ℕ → Bool
+mayRun d i =
     not (idle (serverAt d i))
     && every (d .count) (λ j. idle (serverAt d j) || leb (serverAt d i .deadline .tick) (serverAt d j .deadline .tick))
 
 -- the lowest number of those, and the count of servers where there is none
 unfoldable pub picked : Dispatcher → ℕ
-picked d = first (d .count) (earliest d)
+picked d = first (d .count) (mayRun d)

@@ -12,7 +12,7 @@ use Rattle.counting.specs.Below.{below-suc, every-from, every-fails}
 use Rattle.counting.specs.First.{first-is, first-none}
 use Rattle.server.specs.Server.{idle}
 use Rattle.dispatcher.specs.declared.Dispatcher.{Dispatcher}
-use Rattle.dispatcher.specs.Pick.{serverAt, earliest, picked}
+use Rattle.dispatcher.specs.Pick.{serverAt, mayRun, picked}
 
 abbrev deadlineAt : Dispatcher → ℕ → ℕ
 deadlineAt d i = serverAt d i .deadline .tick
@@ -99,9 +99,9 @@ module _ (d : Dispatcher) where
 
   -- the earliest of all is picked
   pub earliest-picked : (i : ℕ) → Earliest d (d .count) i → picked d ≡ i
-  unfolding picked earliest no-earlier
+  unfolding picked mayRun no-earlier
   earliest-picked i e =
-      first-is (d .count) (earliest d) i (e .among) (rw (e .works) (every-from (d .count) (no-earlier i) none)) before
+      first-is (d .count) (mayRun d) i (e .among) (rw (e .works) (every-from (d .count) (no-earlier i) none)) before
     where
       none : (j : ℕ) → j < d .count → no-earlier i j ≡ true
       none j h = go (idle (serverAt d j)) refl
@@ -110,17 +110,17 @@ module _ (d : Dispatcher) where
           go true w = rw w
           go false w = rw (w, le-leb _ _ (e .least j h w))
 
-      before : (j : ℕ) → j < i → earliest d j ≡ false
+      before : (j : ℕ) → j < i → mayRun d j ≡ false
       before j h = go (idle (serverAt d j)) refl
         where
-          go : (b : Bool) → idle (serverAt d j) ≡ b → earliest d j ≡ false
+          go : (b : Bool) → idle (serverAt d j) ≡ b → mayRun d j ≡ false
           go true w = rw w
           go false w = rw w (every-fails (d .count) (no-earlier j) i (e .among) (rw (e .works, lt-leb _ _ (e .lowest j h w))))
 
   -- where none works none is picked
   pub none-picked : NoneWorks d (d .count) → picked d ≡ d .count
-  unfolding picked earliest
-  none-picked none = first-none (d .count) (earliest d) (λ j h. rw (none j h))
+  unfolding picked mayRun
+  none-picked none = first-none (d .count) (mayRun d) (λ j h. rw (none j h))
 
   -- what is picked is the earliest
   pub picked-earliest : picked d < d .count → Earliest d (d .count) (picked d)

@@ -1,4 +1,4 @@
--- A dispatcher at its start: the clock at 0, and of every server all that it holds (document 01: "All are 0 at the start").
+-- A dispatcher at its start: the clock at 0, and c, d and w of every server (document 01: "All are 0 at the start").
 use Prim.Native.Nat.{ℕ}
 use lib.Dec.{ltb}
 use mathlib.Core.Bool.{cond}

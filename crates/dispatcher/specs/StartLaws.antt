@@ -11,7 +11,6 @@ use Rattle.booking.specs.declared.Booking.{Booking}
 use Rattle.clock.specs.declared.Length.{Length}
 use Rattle.clock.specs.Clock.{moment}
 use Rattle.counting.specs.Places.{places, length-places, getD-places, places-same, places-replicate, set-places}
-use Rattle.server.specs.RangeLaws.{fresh-ranged}
 use Rattle.server.specs.Ranges.{Ranged}
 use Rattle.server.specs.Server.{blank, fresh}
 use Rattle.sizes.specs.Sizes.{mostFrame, mostServers}
@@ -40,14 +39,8 @@ module _ (booking : ℕ → Booking) where
       elsewhere i q (yes b) = rw (lt-ltb i k b, lt-ltb i (suc k) (omega arith))
       elsewhere i q (no b) = rw (le-ltb i k (omega arith), le-ltb i (suc k) (omega arith))
 
--- what a server's booking has to be
-pub record Bookable (b : Booking) : Type 0 where
-  pub budget : 1 ≤ b .budget .ticks
-  pub fits : b .budget .ticks ≤ b .period .ticks
-  pub period : b .period .ticks ≤ mostFrame
-
 module _ (H : Length) (t : Table) (from : 1 ≤ H .ticks) (to : H .ticks ≤ mostFrame) (few : t .count ≤ mostServers)
-    (good : (k : ℕ) → k < t .count → Bookable (t .booking k)) where
+    (good : (k : ℕ) → k < t .count → Ranged (moment 0) (fresh (t .booking k))) where
   at : (k : ℕ) → k < mostServers → getD (places mostServers (startAt t)) k blank ≡ startAt t k
   at k h = getD-places mostServers (startAt t) k blank h
 
@@ -60,14 +53,13 @@ module _ (H : Length) (t : Table) (from : 1 ≤ H .ticks) (to : H .ticks ≤ mos
         clock = omega arith;
         count = few;
         places = length-places mostServers (startAt t);
-        servers = served;
+        servers = ranged;
         behind = λ k h. behind k h (decLt k mostServers);
       }
     where
-      served : (k : ℕ) → k < t .count → Ranged (moment 0) (getD (places mostServers (startAt t)) k blank)
-      served k h =
-          let b = good k h in
-          rw (at k (omega arith), lt-ltb _ _ h) (fresh-ranged (t .booking k) (moment 0) (b .budget) (b .fits) (b .period))
+      ranged : (k : ℕ) → k < t .count → Ranged (moment 0) (getD (places mostServers (startAt t)) k blank)
+      ranged k h =
+          rw (at k (omega arith), lt-ltb _ _ h) (good k h)
 
       behind : (k : ℕ) → t .count ≤ k → Dec (k < mostServers) → getD (places mostServers (startAt t)) k blank ≡ blank
       behind k h (yes b) = rw (at k b, le-ltb _ _ h)

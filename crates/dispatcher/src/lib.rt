@@ -10,7 +10,7 @@ ghost use Prim.Native.Nat.{_<_};
 ghost use mathlib.Core.Bool.{false};
 ghost use Rattle.server.specs.Server.{idle};
 ghost use Rattle.sizes.specs.Sizes.{clockEnd};
-ghost use Rattle.dispatcher.specs.Moves.{arrivalSays, arrivalTaken, tickSays, ticked, ran};
+ghost use Rattle.dispatcher.specs.Moves.{arrivalSays, arrival, tickSays, tick, ran};
 ghost use Rattle.dispatcher.specs.Pick.{serverAt};
 ghost use Rattle.dispatcher.specs.Within.{Within};
 use clock::Length;
@@ -49,10 +49,10 @@ pub struct Ticked {
     pub dispatcher: Dispatcher,
 }
 
-// Work for one server at this moment of the clock.
+// Work for one server at this moment of the clock: refused by 6 or 11, or else accepted.
 pub fn arrival(d: Dispatcher, server: usize, cost: Length) -> Arrived
     requires { ⌜ Within d ⌝ }
-    ensures { λ r. ⌜ arrivalSays r ≡ arrivalTaken d server cost ⌝ }
+    ensures { λ r. ⌜ arrivalSays r ≡ arrival d server cost ⌝ }
     ensures { λ r. ⌜ Within (r .dispatcher) ⌝ }
 {
     let count = d.count;
@@ -79,15 +79,16 @@ pub fn arrival(d: Dispatcher, server: usize, cost: Length) -> Arrived
     }
 }
 
-// One tick of the clock, given to the server that is picked.
+// One tick of the clock: refused by 10, or else idle, or given to the server with the earliest deadline.
 pub fn tick(d: Dispatcher) -> Ticked
     requires { ⌜ Within d ⌝ }
-    ensures { λ r. ⌜ tickSays r ≡ ticked d ⌝ }
+    ensures { λ r. ⌜ tickSays r ≡ tick d ⌝ }
     ensures { λ r. ⌜ Within (r .dispatcher) ⌝ }
 {
     let count = d.count;
     let now = d.clock;
-    if sizes::CLOCK_END <= now.tick {
+    let t = now.tick;
+    if t == sizes::CLOCK_END {
         return Ticked {
             answer: TickAnswer::Refused(Refusal::ClockEnd),
             dispatcher: d,

@@ -1,15 +1,13 @@
 // Step 2 of a moment: which server the tick goes to.
 ghost use mathlib.Core.Bool.{cond};
 ghost use mathlib.Core.Path.{_≡_};
-ghost use Rattle.clock.specs.Clock.{lastTick};
+ghost use Rattle.clock.specs.Clock.{lastTick, moment};
 ghost use Rattle.server.specs.Server.{idle};
 ghost use Rattle.dispatcher.specs.Pick.{picked};
 ghost use Rattle.dispatcher.specs.Within.{Within};
 use crate::Dispatcher;
+use clock::Moment;
 use server::Server;
-
-// What an idle server has for a deadline here: later than that of any other.
-const NEVER: u64 = 18446744073709551615;
 
 // The number of the server with the earliest deadline among those with work, the lowest of several; the count where none has work.
 pub(crate) fn pick(d: Dispatcher) -> usize
@@ -18,11 +16,13 @@ pub(crate) fn pick(d: Dispatcher) -> usize
 {
     let count = d.count;
     let mut best = count;
-    let mut least = NEVER;
+    let mut least = Moment {
+        tick: clock::LAST_TICK,
+    };
     let mut i = 0;
     while i < count {
-        let at = key(d.servers[i]);
-        if at < least {
+        let at = due(d.servers[i]);
+        if at.tick < least.tick {
             best = i;
             least = at;
         }
@@ -31,12 +31,14 @@ pub(crate) fn pick(d: Dispatcher) -> usize
     best
 }
 
-// The deadline of a server with work, and `NEVER` of an idle one.
-fn key(s: Server) -> u64
-    ensures { λ r. ⌜ r ≡ cond (idle s) lastTick (s .deadline .tick) ⌝ }
+// The deadline of a server with work; of an idle one the last moment, which is later than any deadline.
+fn due(s: Server) -> Moment
+    ensures { λ r. ⌜ r ≡ cond (idle s) (moment lastTick) (s .deadline) ⌝ }
 {
     if s.waiting.ticks == 0 {
-        return NEVER;
+        return Moment {
+            tick: clock::LAST_TICK,
+        };
     }
-    s.deadline.tick
+    s.deadline
 }

@@ -8,17 +8,19 @@ use clock::Length;
 use clock::Moment;
 use server::Server;
 
+// The server with the work, woken first where it was idle.
 pub(crate) fn take(s: Server, now: Moment, cost: Length) -> Server
     requires { ⌜ Ranged now s ⌝ }
     requires { ⌜ now .tick ≤ clockEnd ⌝ }
     requires { ⌜ s .waiting .ticks + cost .ticks ≤ mostWaiting ⌝ }
     ensures { λ r. ⌜ r ≡ arrived s now cost ⌝ }
 {
+    let renewed = renew(s, now);
     if s.waiting.ticks != 0 {
         return with_work(s, cost);
     }
     if is_renewed(s, now) {
-        return with_work(renew(s, now), cost);
+        return with_work(renewed, cost);
     }
     with_work(s, cost)
 }
@@ -38,6 +40,7 @@ fn is_renewed(s: Server, now: Moment) -> bool
     ahead.ticks * s.budget.ticks <= s.remaining.ticks * s.period.ticks
 }
 
+// The server with a full budget and its deadline a period from now.
 fn renew(s: Server, now: Moment) -> Server
     requires { ⌜ Ranged now s ⌝ }
     requires { ⌜ now .tick ≤ clockEnd ⌝ }
@@ -56,6 +59,7 @@ fn renew(s: Server, now: Moment) -> Server
     }
 }
 
+// The server with more work to do.
 fn with_work(s: Server, cost: Length) -> Server
     requires { ⌜ s .waiting .ticks + cost .ticks ≤ mostWaiting ⌝ }
     ensures { λ r. ⌜ r ≡ withWork s cost ⌝ }

@@ -8,16 +8,16 @@ use clock::Length;
 use dispatcher::Dispatcher;
 
 // A move is three numbers: a server, the cost of an arrival there, and how often it is played; or a tick, 0, and how often.
-pub const TICK: u64 = 1001;
+pub(crate) const TICK: u64 = 1001;
 
 // Of a move that is played often only the last answers are written.
 const WRITTEN: u64 = 6;
 
-// Opens the table, plays the list, and writes what each server then holds.
-pub fn moves(table: &[u64], frame: u64, list: &[u64]) {
+// Opens the table, plays the list, and writes the dispatcher as it then is.
+pub(crate) fn moves(table: &[u64], frame: u64, list: &[u64]) {
     let opened = opening::open_table(table, Length { ticks: frame });
     let answer = opened.answer;
-    say::opening(answer);
+    say::opening(frame, table.len(), answer);
     let mut at = opened.dispatcher;
     let count = list.len() / 3;
     let mut k = 0;

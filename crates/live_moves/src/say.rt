@@ -1,5 +1,6 @@
 // The answers of live moves as lines of text.
 ghost use Rattle.dispatcher.specs.Within.{Within};
+use clock::Length;
 use clock::Moment;
 use dispatcher::Dispatcher;
 use dispatcher::TickAnswer;
@@ -8,18 +9,23 @@ use refusal::Refusal;
 use refusal::Verdict;
 use server::Server;
 
-pub fn line(text: &[u8]) {
+pub(crate) fn line(text: &[u8]) {
     words(text);
     end();
 }
 
-pub fn opening(answer: Verdict) {
-    words(b"open: ");
+// A table by its frame and how many numbers it has.
+pub(crate) fn opening(frame: u64, numbers: usize, answer: Verdict) {
+    words(b"open H ");
+    number(frame);
+    words(b", ");
+    number(numbers as u64);
+    words(b" numbers: ");
     verdict(answer);
     end();
 }
 
-pub fn arrival(now: Moment, server: usize, cost: u64, answer: Verdict) {
+pub(crate) fn arrival(now: Moment, server: usize, cost: u64, answer: Verdict) {
     words(b"at ");
     number(now.tick);
     words(b" arrival of ");
@@ -31,7 +37,7 @@ pub fn arrival(now: Moment, server: usize, cost: u64, answer: Verdict) {
     end();
 }
 
-pub fn tick(now: Moment, answer: TickAnswer) {
+pub(crate) fn tick(now: Moment, answer: TickAnswer) {
     words(b"at ");
     number(now.tick);
     words(b" tick: ");
@@ -47,19 +53,25 @@ pub fn tick(now: Moment, answer: TickAnswer) {
     end();
 }
 
-// What each server of the dispatcher holds.
-pub fn servers(d: Dispatcher)
+// The dispatcher: its frame, its clock and what each server holds.
+pub(crate) fn servers(d: Dispatcher)
     requires { ⌜ Within d ⌝ }
 {
     let count = d.count;
-    words(b"clock ");
-    number(d.clock.tick);
-    end();
+    head(d.frame, d.clock);
     let mut i = 0;
     while i < count {
         server(i, d.servers[i]);
         i += 1;
     }
+}
+
+fn head(frame: Length, now: Moment) {
+    words(b"H ");
+    number(frame.ticks);
+    words(b", clock ");
+    number(now.tick);
+    end();
 }
 
 fn server(i: usize, s: Server) {

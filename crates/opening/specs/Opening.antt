@@ -12,7 +12,7 @@ use Rattle.clock.specs.Clock.{ticks}
 use Rattle.dispatcher.specs.declared.Dispatcher.{Dispatcher}
 use Rattle.dispatcher.specs.Moves.{Moved}
 use Rattle.dispatcher.specs.Start.{atStart}
-use Rattle.refusal.specs.Refusals.{Said, refused, gave, accepted, onPaper}
+use Rattle.refusal.specs.Refusals.{Said, refused, gave, onPaper}
 use Rattle.sizes.specs.Sizes.{mostFrame, mostServers}
 use Rattle.opening.specs.declared.Opened.{Opened}
 
@@ -21,13 +21,13 @@ abbrev pub listed : List ℕ → Table
 listed l = record { count = length l / 2; booking = λ k. booked (getD l (2 * k) 0) (getD l (2 * k + 1) 0) }
 
 -- refusal 2: "H, N, n or m out of range; for a live table also an odd count of numbers"
-abbrev pub misshapen : ℕ → Length → Bool
-misshapen numbers H =
+abbrev pub outOfRange : ℕ → Length → Bool
+outOfRange numbers H =
     ltb (H .ticks) 1 || ltb mostFrame (H .ticks) || ltb mostServers (numbers / 2) || not (eqb (numbers % 2) 0)
 
--- 2, then 4 and 5 of admission
+-- "gives 2, 4 or 5 in that order"
 unfoldable pub judged : List ℕ → Length → Said (Unit {0})
-judged l H = cond (misshapen (length l) H) (refused 2 0) (admission H (listed l))
+judged l H = cond (outOfRange (length l) H) (refused 2 0) (admission H (listed l))
 
 -- "a refused opening also hands back a dispatcher with H 1, no servers and the clock at 0"
 abbrev pub noServers : Dispatcher
@@ -38,8 +38,10 @@ abbrev pub handedBack : Said (Unit {0}) → Dispatcher → Dispatcher
 handedBack (gave u) d = d
 handedBack (refused number place) d = noServers
 
+-- opening: the judgement, and the dispatcher of the table at its start where it is accepted
 unfoldable pub opening : List ℕ → Length → Moved (Unit {0})
 opening l H = record { answer = judged l H; dispatcher = handedBack (judged l H) (atStart H (listed l)) }
 
+-- what the struct that opening answers says
 abbrev pub openingSays : Opened → Moved (Unit {0})
 openingSays r = record { answer = onPaper (r .answer); dispatcher = r .dispatcher }

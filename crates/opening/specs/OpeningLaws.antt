@@ -13,33 +13,36 @@ use Rattle.booking.specs.AdmissionLaws.{Admitted, admitted}
 use Rattle.booking.specs.Share.{booked}
 use Rattle.booking.specs.ShareLaws.{period-le-frame}
 use Rattle.clock.specs.declared.Length.{Length}
-use Rattle.clock.specs.Clock.{ticks}
+use Rattle.clock.specs.Clock.{moment, ticks}
 use Rattle.counting.specs.Tests.{none-of-four}
 use Rattle.dispatcher.specs.Start.{atStart}
-use Rattle.dispatcher.specs.StartLaws.{Bookable, start-within}
+use Rattle.dispatcher.specs.StartLaws.{start-within}
 use Rattle.dispatcher.specs.Within.{Within}
 use Rattle.refusal.specs.Told.{refused≢gave}
 use Rattle.refusal.specs.Refusals.{Said, refused, gave, accepted}
+use Rattle.server.specs.RangeLaws.{fresh-ranged}
+use Rattle.server.specs.Ranges.{Ranged}
+use Rattle.server.specs.Server.{fresh}
 use Rattle.sizes.specs.Sizes.{mostFrame, mostServers}
-use Rattle.opening.specs.Opening.{listed, misshapen, judged, noServers, opening}
+use Rattle.opening.specs.Opening.{listed, outOfRange, judged, noServers, opening}
 
-pub judged-misshapen : (l : List ℕ) (H : Length) → misshapen (length l) H ≡ true → judged l H ≡ refused 2 0
+pub judged-out-of-range : (l : List ℕ) (H : Length) → outOfRange (length l) H ≡ true → judged l H ≡ refused 2 0
 unfolding judged
-judged-misshapen l H e = rw e
+judged-out-of-range l H e = rw e
 
-pub judged-shaped : (l : List ℕ) (H : Length) → misshapen (length l) H ≡ false → judged l H ≡ admission H (listed l)
+pub judged-in-range : (l : List ℕ) (H : Length) → outOfRange (length l) H ≡ false → judged l H ≡ admission H (listed l)
 unfolding judged
-judged-shaped l H e = rw e
+judged-in-range l H e = rw e
 
 -- what a list and a frame have that are not refused by 2
-pub record Shaped (numbers : ℕ) (H : Length) : Type 0 where
+pub record InRange (numbers : ℕ) (H : Length) : Type 0 where
   pub from : 1 ≤ H .ticks
   pub to : H .ticks ≤ mostFrame
   pub few : numbers / 2 ≤ mostServers
   pub even : numbers % 2 ≡ 0
 
-pub shaped : (numbers : ℕ) (H : Length) → misshapen numbers H ≡ false → Shaped numbers H
-shaped numbers H e =
+pub in-range : (numbers : ℕ) (H : Length) → outOfRange numbers H ≡ false → InRange numbers H
+in-range numbers H e =
     let tests = none-of-four (ltb (H .ticks) 1) _ _ _ e in
     record {
       from = ltb-false _ _ (tests .0);
@@ -49,19 +52,19 @@ shaped numbers H e =
     }
 
 -- what an accepted table is
-pub accepted-shaped : (l : List ℕ) (H : Length) → judged l H ≡ accepted → Shaped (length l) H
-accepted-shaped l H e = go (misshapen (length l) H) refl
+pub accepted-in-range : (l : List ℕ) (H : Length) → judged l H ≡ accepted → InRange (length l) H
+accepted-in-range l H e = go (outOfRange (length l) H) refl
   where
-    go : (m : Bool) → misshapen (length l) H ≡ m → Shaped (length l) H
-    go true m = absurd (refused≢gave (sym (judged-misshapen l H m) ∙ e))
-    go false m = shaped (length l) H m
+    go : (m : Bool) → outOfRange (length l) H ≡ m → InRange (length l) H
+    go true m = absurd (refused≢gave (sym (judged-out-of-range l H m) ∙ e))
+    go false m = in-range (length l) H m
 
 pub accepted-admitted : (l : List ℕ) (H : Length) → judged l H ≡ accepted → Admitted H (listed l)
-accepted-admitted l H e = go (misshapen (length l) H) refl
+accepted-admitted l H e = go (outOfRange (length l) H) refl
   where
-    go : (m : Bool) → misshapen (length l) H ≡ m → Admitted H (listed l)
-    go true m = absurd (refused≢gave (sym (judged-misshapen l H m) ∙ e))
-    go false m = admitted H (listed l) (sym (judged-shaped l H m) ∙ e)
+    go : (m : Bool) → outOfRange (length l) H ≡ m → Admitted H (listed l)
+    go true m = absurd (refused≢gave (sym (judged-out-of-range l H m) ∙ e))
+    go false m = admitted H (listed l) (sym (judged-in-range l H m) ∙ e)
 
 pub opening-accepted : (l : List ℕ) (H : Length) → judged l H ≡ accepted
     → opening l H ≡ record { answer = accepted; dispatcher = atStart H (listed l) }
@@ -82,18 +85,16 @@ noServers-within =
 pub opening-within : (l : List ℕ) (H : Length) → Within (opening l H .dispatcher)
 opening-within l H = go (judged l H) refl
   where
-    bookable : judged l H ≡ accepted → (k : ℕ) → k < length l / 2 → Bookable (listed l .booking k)
-    bookable e k h =
+    ranged : judged l H ≡ accepted → (k : ℕ) → k < length l / 2 → Ranged (moment 0) (fresh (listed l .booking k))
+    ranged e k h =
+        let b = listed l .booking k in
         let good = accepted-admitted l H e .sound k h in
-        let shape = accepted-shaped l H e in
-        record {
-          budget = good .budget;
-          fits = good .fits;
-          period = le-trans (period-le-frame H (listed l .booking k) good (shape .from)) (shape .to);
-        }
+        let within = accepted-in-range l H e in
+        fresh-ranged b (moment 0) (good .budget) (good .fits)
+        (le-trans (period-le-frame H b good (within .from)) (within .to))
 
     go : (s : Said (Unit {0})) → judged l H ≡ s → Within (opening l H .dispatcher)
     go (refused number place) e = rw (opening-refused l H number place e) noServers-within
     go (gave u) e =
-        let shape = accepted-shaped l H e in
-        rw (opening-accepted l H e) (start-within H (listed l) (shape .from) (shape .to) (shape .few) (bookable e))
+        let within = accepted-in-range l H e in
+        rw (opening-accepted l H e) (start-within H (listed l) (within .from) (within .to) (within .few) (ranged e))

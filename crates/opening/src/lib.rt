@@ -3,15 +3,15 @@ ghost use mathlib.Core.Path.{_≡_};
 ghost use Prim.Native.Nat.{_+_, _*_, _/_, _≤_, _<_};
 ghost use lib.ListN.{length};
 ghost use Rattle.booking.specs.Admission.{admission};
-ghost use Rattle.booking.specs.Share.{weighed};
+ghost use Rattle.booking.specs.Share.{shareOf};
 ghost use Rattle.dispatcher.specs.Start.{atStart};
 ghost use Rattle.dispatcher.specs.Within.{Within};
 ghost use Rattle.refusal.specs.Refusals.{onPaper};
 ghost use Rattle.sizes.specs.Sizes.{mostServers};
-ghost use Rattle.opening.specs.Opening.{listed, misshapen, judged, opening, openingSays, noServers};
-ghost use Rattle.opening.specs.OpeningLaws.{Shaped};
+ghost use Rattle.opening.specs.Opening.{listed, outOfRange, judged, opening, openingSays, noServers};
+ghost use Rattle.opening.specs.OpeningLaws.{InRange};
 use booking::Booking;
-use booking::Weighed;
+use booking::Share;
 use clock::Length;
 use clock::Moment;
 use dispatcher::Dispatcher;
@@ -37,7 +37,7 @@ pub fn open_table(table: &[u64], frame: Length) -> Opened
         },
         Verdict::Refused(why) => Opened {
             answer: Verdict::Refused(why),
-            dispatcher: nobody(),
+            dispatcher: no_servers(),
         },
     }
 }
@@ -46,7 +46,7 @@ pub fn open_table(table: &[u64], frame: Length) -> Opened
 fn judge(table: &[u64], frame: Length) -> Verdict
     ensures { λ r. ⌜ onPaper r ≡ judged (now (table .entry)) frame ⌝ }
 {
-    if is_misshapen(table.len(), frame) {
+    if is_out_of_range(table.len(), frame) {
         return Verdict::Refused(Refusal::Sizes);
     }
     admit(table, frame)
@@ -54,17 +54,18 @@ fn judge(table: &[u64], frame: Length) -> Verdict
 
 // 4 at the first faulty server, then 5.
 fn admit(table: &[u64], frame: Length) -> Verdict
-    requires { ⌜ Shaped (length (now table)) frame ⌝ }
+    requires { ⌜ InRange (length (now table)) frame ⌝ }
     ensures { λ r. ⌜ onPaper r ≡ admission frame (listed (now (table .entry))) ⌝ }
 {
     let count = table.len() / 2;
     let mut sum = 0;
     let mut k = 0;
     while k < count {
-        let Weighed::Share(share) = weigh_at(table, k, frame) else {
+        let found = share_at(table, k, frame);
+        if found.faulty {
             return Verdict::Refused(Refusal::FaultyServer(k));
-        };
-        sum += share.ticks;
+        }
+        sum += found.share.ticks;
         k += 1;
     }
     if frame.ticks < sum {
@@ -73,17 +74,17 @@ fn admit(table: &[u64], frame: Length) -> Verdict
     Verdict::Accepted
 }
 
-// What the k-th pair weighs.
-fn weigh_at(table: &[u64], k: usize, frame: Length) -> Weighed
+// The share of the k-th pair.
+fn share_at(table: &[u64], k: usize, frame: Length) -> Share
     requires { ⌜ 2 * k + 1 < length (now table) ⌝ }
-    ensures { λ r. ⌜ r ≡ weighed frame (listed (now (table .entry)) .booking k) ⌝ }
+    ensures { λ r. ⌜ r ≡ shareOf frame (listed (now (table .entry)) .booking k) ⌝ }
 {
-    booking::weigh(frame, booking_at(table, k))
+    booking::share_of(frame, booking_at(table, k))
 }
 
 // Whether the frame, the count of numbers or the count of servers is out of range.
-fn is_misshapen(numbers: usize, frame: Length) -> bool
-    ensures { λ r. ⌜ r ≡ misshapen numbers frame ⌝ }
+fn is_out_of_range(numbers: usize, frame: Length) -> bool
+    ensures { λ r. ⌜ r ≡ outOfRange numbers frame ⌝ }
 {
     let h = frame.ticks;
     if h < 1 {
@@ -133,7 +134,7 @@ fn start(table: &[u64], frame: Length) -> Dispatcher
 }
 
 // What a refused opening hands back.
-fn nobody() -> Dispatcher
+fn no_servers() -> Dispatcher
     ensures { λ r. ⌜ r ≡ noServers ⌝ }
 {
     Dispatcher {

@@ -1,8 +1,5 @@
 -- Section "Refusal numbers" of document 01: the number and the place of each refusal, and what an answer says on paper.
 use Prim.Native.Nat.{ℕ}
-use lib.Dec.{eqb}
-use mathlib.Core.Bool.{cond}
-use mathlib.Core.Path.{_≡_, refl, sym, _∙_, ap}
 use Rattle.refusal.specs.declared.Refusal.{Refusal}
 use Rattle.refusal.specs.declared.Refusal.the-variants.{Sizes, FaultyServer, Shares, FaultyArrival, ClockEnd, WaitingWork}
 use Rattle.refusal.specs.declared.Verdict.{Verdict}

@@ -2,7 +2,7 @@
 use Prim.Native.Nat.{ℕ}
 use lib.Dec.{eqb}
 use mathlib.Core.Bool.{cond}
-use mathlib.Core.Path.{_≡_, refl, sym, ap, ap₂, subst, _∙_}
+use mathlib.Core.Path.{_≡_, refl, sym, ap, subst, _∙_}
 use Rattle.refusal.specs.declared.Refusal.{Refusal}
 use Rattle.refusal.specs.declared.Refusal.the-variants.{Sizes, FaultyServer, Shares, FaultyArrival, ClockEnd, WaitingWork}
 use Rattle.refusal.specs.declared.Verdict.{Verdict}
@@ -18,6 +18,7 @@ refusalOf n k =
     (cond (eqb n 10) ClockEnd
     (cond (eqb n 11) WaitingWork Sizes))))
 
+-- number and place tell a refusal
 pub refusal-back : (r : Refusal) → refusalOf (numberOf r) (placeOf r) ≡ r
 unfolding refusalOf
 refusal-back Sizes = refl
@@ -26,10 +27,6 @@ refusal-back Shares = refl
 refusal-back (FaultyArrival k) = refl
 refusal-back ClockEnd = refl
 refusal-back WaitingWork = refl
-
--- number and place tell a refusal
-pub refusal-told : (r s : Refusal) → numberOf r ≡ numberOf s → placeOf r ≡ placeOf s → r ≡ s
-refusal-told r s p q = sym (refusal-back r) ∙ ap₂ refusalOf p q ∙ refusal-back s
 
 verdictOf : Said (Unit {0}) → Verdict
 verdictOf (refused n k) = Refused (refusalOf n k)

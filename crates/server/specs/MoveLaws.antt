@@ -2,21 +2,14 @@
 use Prim.Native.Nat.{_-_, _*_, _≤_, _<_}
 use borrow.Author.Tests.{leb-true, leb-false, le-leb, lt-leb, eq-eqb, ne-eqb}
 use lib.Dec.{leb}
-use mathlib.Core.Bool.{Bool, true, false, _||_, true≢false}
+use mathlib.Core.Bool.{Bool, true, false, true≢false}
 use mathlib.Core.Path.{_≡_, refl, sym, _∙_}
 use Rattle.clock.specs.declared.Length.{Length}
 use Rattle.clock.specs.declared.Moment.{Moment}
 use Rattle.clock.specs.Clock.{until}
+use Rattle.counting.specs.Tests.{or-true, or-false}
 use Rattle.server.specs.declared.Server.{Server}
 use Rattle.server.specs.Moves.{renews, renewed, withWork, arrived, oneTickLess, postponed, served}
-
-or-true : (b : Bool) → (b || true) ≡ true
-or-true true = refl
-or-true false = refl
-
-or-false : (b : Bool) → (b || false) ≡ b
-or-false true = refl
-or-false false = refl
 
 -- "d is at or before t"
 pub renews-passed : (s : Server) (t : Moment) → s .deadline .tick ≤ t .tick → renews s t ≡ true

@@ -2,6 +2,7 @@
 use Prim.Native.Nat.{_+_, _-_, _*_, _≤_}
 use lib.Dec.{eqb, lit≤}
 use mathlib.Core.Bool.{Bool, true, false}
+use mathlib.Core.Logic.{inl, inr, ⊎-elim}
 use mathlib.Core.Path.{_≡_, refl}
 use native.Mathlib.Nat.{le-trans, mul-le-mul, mul-le-mul-left, mul-le-mul-right, pos-of-ne-zero}
 use native.Mathlib.Omega.{arith}
@@ -30,10 +31,6 @@ ranged-later {t} {u} {s} h r =
       charged = r .charged;
     }
 
--- a server with budget left is charged, whatever else it holds
-charged-left : {A : Type 0} (s : Server) → 1 ≤ s .remaining .ticks → s .remaining .ticks ≡ 0 → A
-charged-left s h e = let no : ⊥ = omega arith in absurd no
-
 -- at the start
 pub fresh-ranged : (b : Booking) (t : Moment) → 1 ≤ b .budget .ticks → b .budget .ticks ≤ b .period .ticks
     → b .period .ticks ≤ mostFrame → Ranged t (fresh b)
@@ -45,7 +42,7 @@ fresh-ranged b t q f p =
       remaining = omega arith;
       waiting = omega arith;
       deadline = omega arith;
-      charged = λ e. (refl, refl);
+      charged = inr (refl, refl, refl);
     }
 
 -- with more work, where it still fits
@@ -59,7 +56,7 @@ withWork-ranged s t cost r left h =
       remaining = r .remaining;
       waiting = h;
       deadline = r .deadline;
-      charged = charged-left s left;
+      charged = inl left;
     }
 
 renewed-ranged : (s : Server) (t : Moment) → Ranged t s → Ranged t (renewed s t)
@@ -72,15 +69,15 @@ renewed-ranged s t r =
       remaining = omega arith;
       waiting = r .waiting;
       deadline = omega (arith, mul-le-mul-right (t .tick) one);
-      charged = charged-left (renewed s t) (r .budget);
+      charged = inl (r .budget);
     }
 
 -- a busy server has budget left, and so has one that keeps its deadline
 pub busy-charged : {t : Moment} {s : Server} → Ranged t s → (s .waiting .ticks ≡ 0 → ⊥) → 1 ≤ s .remaining .ticks
-busy-charged r w = pos-of-ne-zero (λ e. w (r .charged e .1))
+busy-charged r w = ⊎-elim (λ left. left) (λ none. absurd (w (none .2))) (r .charged)
 
 kept-charged : {t : Moment} {s : Server} → Ranged t s → renews s t ≡ false → 1 ≤ s .remaining .ticks
-kept-charged {t} {s} r k = pos-of-ne-zero (λ e. let d = r .charged e .0 in omega (arith, keeps-ahead s t k))
+kept-charged {t} {s} r k = ⊎-elim (λ left. left) (λ none. omega (arith, keeps-ahead s t k)) (r .charged)
 
 -- step 1
 pub arrived-ranged : (s : Server) (t : Moment) (cost : Length) → Ranged t s → s .waiting .ticks + cost .ticks ≤ mostWaiting
@@ -112,7 +109,7 @@ served-ranged s t r w = go (eqb (s .remaining .ticks - 1) 0) refl
           remaining = omega arith;
           waiting = omega (arith, r .waiting);
           deadline = omega (arith, r .deadline);
-          charged = charged-left (postponed (oneTickLess s)) (r .budget);
+          charged = inl (r .budget);
         }
     go false e =
         let left : 1 ≤ s .remaining .ticks - 1 = pos-of-ne-zero (eqb-false _ _ e) in
@@ -124,7 +121,7 @@ served-ranged s t r w = go (eqb (s .remaining .ticks - 1) 0) refl
           remaining = omega (arith, r .remaining);
           waiting = omega (arith, r .waiting);
           deadline = omega (arith, r .deadline);
-          charged = charged-left (oneTickLess s) left;
+          charged = inl left;
         }
 
 -- Within their ranges the numbers that the moves work out fit 64 bits.

@@ -1,5 +1,6 @@
 -- What the numbers of a server may be at a moment t of the clock: what every move keeps.
 use Prim.Native.Nat.{_+_, _*_, _≤_}
+use mathlib.Core.Logic.{_⊎_}
 use mathlib.Core.Path.{_≡_}
 use Rattle.clock.specs.declared.Moment.{Moment}
 use Rattle.sizes.specs.Sizes.{mostFrame, mostWaiting}
@@ -14,5 +15,6 @@ pub record Ranged (t : Moment) (s : Server) : Type 0 where
   pub remaining : s .remaining .ticks ≤ s .budget .ticks
   pub waiting : s .waiting .ticks ≤ mostWaiting
   pub deadline : s .deadline .tick ≤ s .period .ticks * (t .tick + 1)
-  -- c is 0 only where the server has never woken, and then d and w are 0 too
-  pub charged : s .remaining .ticks ≡ 0 → (s .deadline .tick ≡ 0) × (s .waiting .ticks ≡ 0)
+  -- c from 1, or else c, d and w all 0, as at the start
+  pub charged :
+      (1 ≤ s .remaining .ticks) ⊎ ((s .remaining .ticks ≡ 0) × (s .deadline .tick ≡ 0) × (s .waiting .ticks ≡ 0))

@@ -12,8 +12,8 @@ use Rattle.server.specs.Ranges.{Ranged}
 use Rattle.sizes.specs.Sizes.{mostWaiting}
 use Rattle.dispatcher.specs.declared.Arrived.{Arrived}
 use Rattle.dispatcher.specs.declared.Dispatcher.{Dispatcher}
-use Rattle.dispatcher.specs.MoveLaws.{taken-faulty, taken-overfull, taken-whole, arrivalTaken-within, and-within}
-use Rattle.dispatcher.specs.Moves.{arrivalSays, arrivalTaken}
+use Rattle.dispatcher.specs.MoveLaws.{arrival-faulty, arrival-too-much, arrival-whole, arrival-within, and-within}
+use Rattle.dispatcher.specs.Moves.{arrivalSays, arrival}
 use Rattle.dispatcher.specs.Pick.{serverAt}
 use Rattle.dispatcher.specs.Within.{Within}
 use Rattle.dispatcher.proofs.arrival.Statement.{statement}
@@ -38,8 +38,8 @@ is-faulty-requires c κs = search needs
 
 returns : tie.Need-returns
 returns c =
-    and-within (arrivalTaken-within (c .before .before .before .pre) _ _)
-    (sym (taken-faulty _ _ _ (sym (c .before .is-faulty .ensures) ∙ c .if1 .taken)))
+    and-within (arrival-within (c .before .before .before .pre) _ _)
+    (sym (arrival-faulty _ _ _ (sym (c .before .is-faulty .ensures) ∙ c .if1 .taken)))
 
 mul-s : tie.Need-mul-s
 mul-s c = omega (arith, below c)
@@ -52,9 +52,9 @@ sub-if2 c = ranged (c .before .before) .waiting
 
 returns-2 : tie.Need-returns-2
 returns-2 c =
-    and-within (arrivalTaken-within (c .before .before .before .before .before .before .pre) _ _)
+    and-within (arrival-within (c .before .before .before .before .before .before .pre) _ _)
     (sym
-    (taken-overfull _ _ _
+    (arrival-too-much _ _ _
     (no-fault (c .before .before .before))
     (omega (arith, c .if2 .taken, ranged (c .before .before .before) .waiting))))
 
@@ -77,8 +77,8 @@ element-set-from-taken c = below (c .before .before .before .before)
 
 returns-3 : tie.Need-returns-3
 returns-3 c =
-    and-within (arrivalTaken-within (c .before .before .before .before .before .before .before .pre) _ _)
-    (rw (c .take .ensures) (sym (taken-whole _ _ _ (no-fault (c .before .before .before .before)) (fits (c .before)))))
+    and-within (arrival-within (c .before .before .before .before .before .before .before .pre) _ _)
+    (rw (c .take .ensures) (sym (arrival-whole _ _ _ (no-fault (c .before .before .before .before)) (fits (c .before)))))
 
 pub arrival-spec : {M : Type 1} → statement M
 arrival-spec =

@@ -4,23 +4,24 @@ use borrow.Author.Needs.{needs}
 use mathlib.Core.Path.{sym, _∙_}
 use native.Mathlib.Omega.{arith}
 use Rattle.clock.specs.Clock.{shown-whole}
-use Rattle.dispatcher.specs.MoveLaws.{ticked-ended, ticked-ran, ticked-idle, ticked-within, and-within}
+use Rattle.dispatcher.specs.MoveLaws.{tick-ended, tick-ran, tick-idle, before-end, tick-within, and-within}
 use Rattle.dispatcher.specs.PickLaws.{picked-earliest}
 use Rattle.dispatcher.proofs.tick.Statement.{statement}
 use Rattle.dispatcher.proofs.tick.Tie as tie
 
 returns : tie.Need-returns
-returns c = and-within (ticked-within (c .before .before .before .pre)) (sym (ticked-ended _ (c .if1 .taken)))
+returns c = and-within (tick-within (c .before .before .pre)) (sym (tick-ended _ (c .if1 .taken)))
 
 pick-requires : tie.Need-pick-requires
 pick-requires c κs = search needs
 
 run-requires : tie.Need-run-requires
 run-requires c κs =
+    let ok = c .before .before .before .before .pre in
     let chosen = rw (c .before .pick .ensures) at (c .if2 .taken) in (
-      c .before .before .before .before .before .pre,
+      ok,
       (
-        c .before .before .if1 .left,
+        before-end ok (c .before .before .if1 .left),
         (
           c .if2 .taken,
           rw (c .before .pick .ensures) (picked-earliest _ chosen .works),
@@ -31,9 +32,9 @@ run-requires c κs =
 returns-2 : tie.Need-returns-2
 returns-2 c =
     let chosen = rw (c .before .before .pick .ensures) at (c .before .if2 .taken) in
-    and-within (ticked-within (c .before .before .before .before .before .before .pre))
+    and-within (tick-within (c .before .before .before .before .before .pre))
     (c .run .ensures
-    ∙ rw (c .before .before .pick .ensures) (sym (ticked-ran _ (c .before .before .before .if1 .left) chosen)))
+    ∙ rw (c .before .before .pick .ensures) (sym (tick-ran _ (c .before .before .before .if1 .left) chosen)))
 
 later-requires : tie.Need-later-requires
 later-requires c κs = search needs
@@ -41,9 +42,9 @@ later-requires c κs = search needs
 returns-3 : tie.Need-returns-3
 returns-3 c =
     let nobody = rw (c .before .before .pick .ensures) at (c .before .if2 .left) in
-    and-within (ticked-within (c .before .before .before .before .before .before .pre))
-    (rw (c .later .ensures ∙ shown-whole _ (omega arith))
-    (sym (ticked-idle _ (c .before .before .before .if1 .left) nobody)))
+    and-within (tick-within (c .before .before .before .before .before .pre))
+    (rw (c .later .ensures ∙ shown-whole _ (omega (arith, c .before .before .before .before .before .pre .clock)))
+    (sym (tick-idle _ (c .before .before .before .if1 .left) nobody)))
 
 pub tick-spec : {M : Type 1} → statement M
 tick-spec = tie.close (tie.spec returns pick-requires run-requires returns-2 later-requires returns-3)

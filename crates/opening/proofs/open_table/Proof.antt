@@ -3,7 +3,7 @@ use borrow.Author.Needs.{needs}
 use mathlib.Core.Path.{sym, _∙_, ap}
 use Rattle.dispatcher.specs.MoveLaws.{and-within}
 use Rattle.refusal.specs.Refusals.{onPaper}
-use Rattle.opening.specs.OpeningLaws.{accepted-shaped, opening-accepted, opening-refused, opening-within}
+use Rattle.opening.specs.OpeningLaws.{accepted-in-range, opening-accepted, opening-refused, opening-within}
 use Rattle.opening.proofs.open_table.Statement.{statement}
 use Rattle.opening.proofs.open_table.Tie as tie
 
@@ -15,13 +15,13 @@ enum-told c = search needs
 
 start-requires : tie.Need-start-requires
 start-requires c κs =
-    accepted-shaped _ _ (sym (c .before .before .judge .ensures) ∙ ap onPaper (c .enum-told .given .1)) .few
+    accepted-in-range _ _ (sym (c .before .before .judge .ensures) ∙ ap onPaper (c .enum-told .given .1)) .few
 
 enum-known-verdict : tie.Need-enum-known-verdict
 enum-known-verdict c = search needs
 
-nobody-requires : tie.Need-nobody-requires
-nobody-requires c κs = search needs
+no-servers-requires : tie.Need-no-servers-requires
+no-servers-requires c κs = search needs
 
 returns : tie.Need-returns
 returns c =
@@ -32,7 +32,7 @@ returns c =
 returns-2 : tie.Need-returns-2
 returns-2 c =
     and-within (opening-within _ _)
-    (rw (c .nobody .ensures)
+    (rw (c .no-servers .ensures)
     (sym
     (opening-refused _ _ _ _
     (sym (c .before .before .before .before .judge .ensures) ∙ ap onPaper (c .before .before .verdict .given .1)))))
@@ -45,6 +45,6 @@ open-table-spec =
     enum-told
     start-requires
     enum-known-verdict
-    nobody-requires
+    no-servers-requires
     returns
     returns-2)

@@ -7,7 +7,8 @@ use mathlib.Core.Path.{_≡_, refl, sym, _∙_, subst}
 use native.Mathlib.Nat.{not-suc-le-zero}
 use native.Mathlib.Numerals.{add-one}
 use native.Mathlib.Omega.{arith}
-use Rattle.clock.specs.Clock.{lastTick}
+use Rattle.clock.specs.declared.Moment.{Moment}
+use Rattle.clock.specs.Clock.{lastTick, moment}
 use Rattle.server.specs.declared.Server.{Server}
 use Rattle.server.specs.RangeLaws.{deadline-fits}
 use Rattle.server.specs.Server.{idle}
@@ -19,32 +20,33 @@ use Rattle.dispatcher.proofs.picking.pick.Statement.{statement}
 use Rattle.dispatcher.proofs.picking.pick.Tie as tie
 use Rattle.dispatcher.proofs.picking.pick.Reads as reads
 use Rattle.dispatcher.proofs.picking.pick.Lts as lts
-use Rattle.dispatcher.proofs.picking.key.Reads as key-reads
+use Rattle.dispatcher.proofs.picking.due.Reads as due-reads
 
 -- what the loop knows of the first k servers
 data Sofar (d : Dispatcher) (k best least : ℕ) : Type 0 where
   nobody : best ≡ d .count → least ≡ lastTick → NoneWorks d k → Sofar d k best least
   somebody : Earliest d k best → least ≡ serverAt d best .deadline .tick → Sofar d k best least
 
-abbrev keyOf : Server → ℕ
-keyOf s = cond (idle s) lastTick (s .deadline .tick)
+-- what `due` answers
+abbrev dueOf : Server → Moment
+dueOf s = cond (idle s) (moment lastTick) (s .deadline)
 
--- one more server, by whether its key is below the least
+-- one more server, by whether it is due before the least
 module _ (d : Dispatcher) (ok : Within d) (k : ℕ) (h : k < d .count) where
   -- every deadline is before the last moment
   before-last : (j : ℕ) → j < d .count → serverAt d j .deadline .tick < lastTick
   before-last j b = let r = ok .servers j b in omega (arith, deadline-fits r (ok .clock), r .budget, r .fits)
 
-  takes-over : (best least : ℕ) → Sofar d k best least → keyOf (serverAt d k) < least → Sofar d (suc k) k (keyOf (serverAt d k))
+  takes-over : (best least : ℕ) → Sofar d k best least → dueOf (serverAt d k) .tick < least → Sofar d (suc k) k (dueOf (serverAt d k) .tick)
   takes-over best least s t = go (idle (serverAt d k)) refl s
     where
-      go : (b : Bool) → idle (serverAt d k) ≡ b → Sofar d k best least → Sofar d (suc k) k (keyOf (serverAt d k))
+      go : (b : Bool) → idle (serverAt d k) ≡ b → Sofar d k best least → Sofar d (suc k) k (dueOf (serverAt d k) .tick)
       go true e (nobody q l none) = let no : ⊥ = omega (arith, rw e at t) in absurd no
       go true e (somebody f l) = let no : ⊥ = omega (arith, rw e at t, before-last best (omega (arith, f .among))) in absurd no
       go false e (nobody q l none) = somebody (earliest-first d k none e) (rw e)
       go false e (somebody f l) = somebody (earliest-moves d k best f e (omega (arith, rw e at t))) (rw e)
 
-  stays : (best least : ℕ) → Sofar d k best least → least ≤ keyOf (serverAt d k) → Sofar d (suc k) best least
+  stays : (best least : ℕ) → Sofar d k best least → least ≤ dueOf (serverAt d k) .tick → Sofar d (suc k) best least
   stays best least s t = go (idle (serverAt d k)) refl s
     where
       go : (b : Bool) → idle (serverAt d k) ≡ b → Sofar d k best least → Sofar d (suc k) best least
@@ -59,7 +61,7 @@ ended d k best least (nobody q l none) e = q ∙ sym (none-picked d (subst (None
 ended d k best least (somebody f l) e = sym (earliest-picked d best (subst (λ (n : ℕ). Earliest d n best) e f))
 
 abbrev Inv-loop : tie.InvT-loop
-Inv-loop d count best₀ least₀ i₀ best least i = (i ≤ d .count) × Sofar d i best least
+Inv-loop d count best₀ least₀ i₀ best least i = (i ≤ d .count) × Sofar d i best (least .tick)
 
 abbrev μ-loop : tie.MeasureT-loop
 μ-loop d count best₀ least₀ i₀ best least i = d .count - i
@@ -67,34 +69,35 @@ abbrev μ-loop : tie.MeasureT-loop
 loop-holds : tie.Need-loop-holds Inv-loop μ-loop
 loop-holds c = (omega arith, nobody refl refl (λ j b. absurd (not-suc-le-zero b)))
 
-mul-key : tie.Need-mul-key Inv-loop μ-loop
-mul-key c = omega (arith, c .before .before .pre .count)
+mul-due : tie.Need-mul-due Inv-loop μ-loop
+mul-due c = omega (arith, c .before .before .pre .count)
 
-element-copy-out-key : tie.Need-element-copy-out-key Inv-loop μ-loop
-element-copy-out-key c = omega (arith, c .before .before .pre .count)
+element-copy-out-due : tie.Need-element-copy-out-due Inv-loop μ-loop
+element-copy-out-due c = omega (arith, c .before .before .pre .count)
 
-key-requires : tie.Need-key-requires Inv-loop μ-loop
-key-requires c κs = search needs
+due-requires : tie.Need-due-requires Inv-loop μ-loop
+due-requires c κs = search needs
 
 add-i : tie.Need-add-i Inv-loop μ-loop
-add-i c = omega (arith, c .before .before .before .before .before .pre .count)
+add-i c = omega (arith, c .before .before .before .before .before .before .before .pre .count)
 
 loop-less : tie.Need-loop-less Inv-loop μ-loop
 loop-less c = omega arith
 
 loop-again : tie.Need-loop-again Inv-loop μ-loop
 loop-again c =
-    let d = c .before .before .before .before .before .args .t1 in
-    let ok = c .before .before .before .before .before .pre in
-    let turn = c .before .before .before .before .loop in
-    let here = c .before .before .before .loop-test .taken in (
+    let d = c .before .before .before .before .before .before .before .args .t1 in
+    let ok = c .before .before .before .before .before .before .before .pre in
+    let turn = c .before .before .before .before .before .before .loop in
+    let here = c .before .before .before .before .before .loop-test .taken in
+    let due = c .before .before .before .due .ensures in (
       omega arith,
       rw add-one
           (⊎-elim
-          (λ w. rw (w .1, w .2, c .before .key .ensures)
-          (takes-over d ok (turn .i) here (turn .best) (turn .least) (turn .inv .1) (rw (c .before .key .ensures) at (w .0 .taken))))
+          (λ w. rw (w .1, w .2, due)
+          (takes-over d ok (turn .i) here (turn .best) (turn .least .tick) (turn .inv .1) (rw due at (w .0 .taken))))
           (λ w. rw (w .1, w .2)
-          (stays d ok (turn .i) here (turn .best) (turn .least) (turn .inv .1) (rw (c .before .key .ensures) at (w .0 .left))))
+          (stays d ok (turn .i) here (turn .best) (turn .least .tick) (turn .inv .1) (rw due at (w .0 .left))))
           (c .if1 .came)),
     )
 
@@ -108,9 +111,9 @@ pick-spec =
     Inv-loop
     μ-loop
     loop-holds
-    mul-key
-    element-copy-out-key
-    key-requires
+    mul-due
+    element-copy-out-due
+    due-requires
     add-i
     loop-less
     loop-again

@@ -5,6 +5,9 @@ use Rattle.server.specs.MoveLaws.{arrived-busy, arrived-renewed, arrived-kept}
 use Rattle.dispatcher.proofs.taking.take.Statement.{statement}
 use Rattle.dispatcher.proofs.taking.take.Tie as tie
 
+renew-requires : tie.Need-renew-requires
+renew-requires c κs = search needs
+
 with-work-requires : tie.Need-with-work-requires
 with-work-requires c κs = search needs
 
@@ -14,19 +17,17 @@ returns c = c .with-work .ensures ∙ sym (arrived-busy _ _ _ (c .before .if1 .t
 is-renewed-requires : tie.Need-is-renewed-requires
 is-renewed-requires c κs = search needs
 
-renew-requires : tie.Need-renew-requires
-renew-requires c κs = search needs
-
 with-work-requires-2 : tie.Need-with-work-requires-2
-with-work-requires-2 c κs = rw (c .renew .ensures) (c .before .before .before .before .before .pre .1 .1)
+with-work-requires-2 c κs =
+    rw (c .before .before .before .before .renew .ensures) (c .before .before .before .before .before .pre .1 .1)
 
 returns-2 : tie.Need-returns-2
 returns-2 c =
-    rw (c .with-work2 .ensures, c .before .renew .ensures)
+    rw (c .with-work2 .ensures, c .before .before .before .before .before .renew .ensures)
     (sym
     (arrived-renewed _ _ _
-    (c .before .before .before .before .if1 .left)
-    (sym (c .before .before .before .is-renewed .ensures) ∙ c .before .before .if2 .taken)))
+    (c .before .before .before .if1 .left)
+    (sym (c .before .before .is-renewed .ensures) ∙ c .before .if2 .taken)))
 
 with-work-requires-3 : tie.Need-with-work-requires-3
 with-work-requires-3 c κs = search needs
@@ -43,10 +44,10 @@ pub take-spec : {M : Type 1} → statement M
 take-spec =
     tie.close
     (tie.spec
+    renew-requires
     with-work-requires
     returns
     is-renewed-requires
-    renew-requires
     with-work-requires-2
     returns-2
     with-work-requires-3

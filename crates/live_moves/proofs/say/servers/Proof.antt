@@ -11,17 +11,8 @@ Inv-loop d count i₀ i = i ≤ d .count
 abbrev μ-loop : tie.MeasureT-loop
 μ-loop d count i₀ i = d .count - i
 
-slice-aggregate-words : tie.Need-slice-aggregate-words Inv-loop μ-loop
-slice-aggregate-words c = search needs
-
-words-requires : tie.Need-words-requires Inv-loop μ-loop
-words-requires c κs = search needs
-
-number-requires : tie.Need-number-requires Inv-loop μ-loop
-number-requires c κs = search needs
-
-end-requires : tie.Need-end-requires Inv-loop μ-loop
-end-requires c κs = search needs
+head-requires : tie.Need-head-requires Inv-loop μ-loop
+head-requires c κs = search needs
 
 loop-holds : tie.Need-loop-holds Inv-loop μ-loop
 loop-holds c = search needs
@@ -53,10 +44,7 @@ servers-spec =
     (tie.spec
     Inv-loop
     μ-loop
-    slice-aggregate-words
-    words-requires
-    number-requires
-    end-requires
+    head-requires
     loop-holds
     mul-server
     element-copy-out-server

@@ -1,7 +1,7 @@
--- `opening::is_misshapen` meets its promise: each branch asks one of the definition's four tests, in its order.
+-- `opening::is_out_of_range` meets its promise: each branch asks one of the definition's four tests, in its order.
 use borrow.Author.Tests.{lt-ltb, le-ltb}
-use Rattle.opening.proofs.is_misshapen.Statement.{statement}
-use Rattle.opening.proofs.is_misshapen.Tie as tie
+use Rattle.opening.proofs.is_out_of_range.Statement.{statement}
+use Rattle.opening.proofs.is_out_of_range.Tie as tie
 
 returns : tie.Need-returns
 returns c = rw (lt-ltb _ _ (c .if1 .taken))
@@ -15,5 +15,5 @@ returns-3 c = rw (le-ltb _ _ (c .before .before .if1 .left), le-ltb _ _ (c .befo
 returns-4 : tie.Need-returns-4
 returns-4 c = rw (le-ltb _ _ (c .before .before .if1 .left), le-ltb _ _ (c .before .if2 .left), le-ltb _ _ (c .if3 .left))
 
-pub is-misshapen-spec : {M : Type 1} → statement M
-is-misshapen-spec = tie.close (tie.spec returns returns-2 returns-3 returns-4)
+pub is-out-of-range-spec : {M : Type 1} → statement M
+is-out-of-range-spec = tie.close (tie.spec returns returns-2 returns-3 returns-4)
