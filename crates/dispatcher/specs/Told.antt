@@ -1,5 +1,4 @@
 -- What a move says on paper tells what it handed back.
-use Prim.Native.Nat.{ℕ}
 use mathlib.Core.Path.{_≡_, refl, sym, _∙_, ap, ap₂}
 use Rattle.refusal.specs.Refusals.{Said, refused, gave}
 use Rattle.refusal.specs.Told.{refusalOf, refusal-back}

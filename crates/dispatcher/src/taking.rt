@@ -1,7 +1,7 @@
 // Step 1 of a moment, at one server: it takes the work of an arrival, and wakes where it was idle.
 ghost use mathlib.Core.Path.{_≡_};
 ghost use Prim.Native.Nat.{_+_, _≤_};
-ghost use Rattle.server.specs.Moves.{arrived, renews, renewed, withWork};
+ghost use Rattle.server.specs.Moves.{arrived, renews, renewed, withWaiting};
 ghost use Rattle.server.specs.Ranges.{Ranged};
 ghost use Rattle.sizes.specs.Sizes.{clockEnd, mostWaiting};
 use clock::Length;
@@ -15,14 +15,17 @@ pub(crate) fn take(s: Server, now: Moment, cost: Length) -> Server
     requires { ⌜ s .waiting .ticks + cost .ticks ≤ mostWaiting ⌝ }
     ensures { λ r. ⌜ r ≡ arrived s now cost ⌝ }
 {
+    let waiting = Length {
+        ticks: s.waiting.ticks + cost.ticks,
+    };
     let renewed = renew(s, now);
     if s.waiting.ticks != 0 {
-        return with_work(s, cost);
+        return with_waiting(s, waiting);
     }
     if is_renewed(s, now) {
-        return with_work(renewed, cost);
+        return with_waiting(renewed, waiting);
     }
-    with_work(s, cost)
+    with_waiting(s, waiting)
 }
 
 // Whether a server that wakes now renews. Both products fit: c and Q are at most T, T at most 604,800, and the deadline lies at
@@ -59,14 +62,10 @@ fn renew(s: Server, now: Moment) -> Server
     }
 }
 
-// The server with more work to do.
-fn with_work(s: Server, cost: Length) -> Server
-    requires { ⌜ s .waiting .ticks + cost .ticks ≤ mostWaiting ⌝ }
-    ensures { λ r. ⌜ r ≡ withWork s cost ⌝ }
+// The server with so much work to do.
+fn with_waiting(s: Server, waiting: Length) -> Server
+    ensures { λ r. ⌜ r ≡ withWaiting s waiting ⌝ }
 {
-    let waiting = Length {
-        ticks: s.waiting.ticks + cost.ticks,
-    };
     let mut next = s;
     next.waiting = waiting;
     next

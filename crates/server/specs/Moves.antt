@@ -1,5 +1,5 @@
 -- What one moment t of the clock does to one server (document 01, "One moment of the clock", steps 1 and 3).
-use Prim.Native.Nat.{ℕ, _+_, _-_, _*_}
+use Prim.Native.Nat.{_+_, _-_, _*_}
 use lib.Dec.{eqb, leb}
 use mathlib.Core.Bool.{Bool, cond, _||_}
 use Rattle.clock.specs.declared.Length.{Length}
@@ -32,16 +32,20 @@ renewed s t =
 abbrev pub woken : Server → Moment → Server
 woken s t = cond (renews s t) (renewed s t) s
 
--- "Then w grows by the cost."
-abbrev pub withWork : Server → Length → Server
-withWork s cost =
+-- the server with so much work waiting
+abbrev pub withWaiting : Server → Length → Server
+withWaiting s w =
     record {
       budget = s .budget;
       period = s .period;
       remaining = s .remaining;
       deadline = s .deadline;
-      waiting = ticks (s .waiting .ticks + cost .ticks);
+      waiting = w;
     }
+
+-- "Then w grows by the cost."
+abbrev pub withWork : Server → Length → Server
+withWork s cost = withWaiting s (ticks (s .waiting .ticks + cost .ticks))
 
 -- the whole step: "If the server is idle it wakes"; "A busy server only gets the work."
 unfoldable pub arrived : Server → Moment → Length → Server

@@ -14,7 +14,7 @@ use Rattle.clock.specs.Clock.{lastTick, moment, until}
 use Rattle.sizes.specs.Sizes.{clockEnd, mostFrame, mostWaiting}
 use Rattle.server.specs.declared.Server.{Server}
 use Rattle.server.specs.MoveLaws.{keeps-ahead, arrived-busy, arrived-renewed, arrived-kept, served-last, served-more}
-use Rattle.server.specs.Moves.{renews, renewed, withWork, arrived, oneTickLess, postponed, served}
+use Rattle.server.specs.Moves.{renews, renewed, withWork, arrived, served}
 use Rattle.server.specs.Ranges.{Ranged}
 use Rattle.server.specs.Server.{fresh}
 

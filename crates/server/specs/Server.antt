@@ -1,6 +1,5 @@
 -- What a server holds (document 01, "One moment of the clock"): beside its booking of Q in every T "its remaining budget c, its
 -- deadline d and its waiting work w".
-use Prim.Native.Nat.{ℕ}
 use lib.Dec.{eqb}
 use mathlib.Core.Bool.{Bool}
 use Rattle.booking.specs.declared.Booking.{Booking}

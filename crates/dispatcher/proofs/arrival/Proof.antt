@@ -1,21 +1,17 @@
 -- `dispatcher::arrival` meets its promise: its three ways are the three cases of the definition, and what the definition gives is
 -- within the ranges.
-use Prim.Native.Nat.{ℕ, _+_, _≤_, _<_}
+use Prim.Native.Nat.{_+_, _≤_, _<_}
 use borrow.Author.Needs.{needs}
 use mathlib.Core.Bool.{false}
 use mathlib.Core.Path.{_≡_, sym, _∙_}
 use native.Mathlib.Omega.{arith}
 use Rattle.arrival.specs.Arrival.{faulty}
 use Rattle.arrival.specs.ArrivalLaws.{sound}
-use Rattle.clock.specs.declared.Length.{Length}
 use Rattle.server.specs.Ranges.{Ranged}
 use Rattle.sizes.specs.Sizes.{mostWaiting}
-use Rattle.dispatcher.specs.declared.Arrived.{Arrived}
-use Rattle.dispatcher.specs.declared.Dispatcher.{Dispatcher}
 use Rattle.dispatcher.specs.MoveLaws.{arrival-faulty, arrival-too-much, arrival-whole, arrival-within, and-within}
-use Rattle.dispatcher.specs.Moves.{arrivalSays, arrival}
+use Rattle.dispatcher.specs.Moves.{arrival}
 use Rattle.dispatcher.specs.Pick.{serverAt}
-use Rattle.dispatcher.specs.Within.{Within}
 use Rattle.dispatcher.proofs.arrival.Statement.{statement}
 use Rattle.dispatcher.proofs.arrival.Tie as tie
 

@@ -1,10 +1,12 @@
 -- `dispatcher::tick` meets its promise: its three ways are the three cases of the definition, and what the definition gives is within
 -- the ranges.
+use Prim.Native.Nat.{ℕ, _<_}
 use borrow.Author.Needs.{needs}
-use mathlib.Core.Path.{sym, _∙_}
+use mathlib.Core.Path.{sym, _∙_, subst}
 use native.Mathlib.Omega.{arith}
 use Rattle.clock.specs.Clock.{shown-whole}
 use Rattle.dispatcher.specs.MoveLaws.{tick-ended, tick-ran, tick-idle, before-end, tick-within, and-within}
+use Rattle.dispatcher.specs.Pick.{picked}
 use Rattle.dispatcher.specs.PickLaws.{picked-earliest}
 use Rattle.dispatcher.proofs.tick.Statement.{statement}
 use Rattle.dispatcher.proofs.tick.Tie as tie
@@ -15,26 +17,30 @@ returns c = and-within (tick-within (c .before .before .pre)) (sym (tick-ended _
 pick-requires : tie.Need-pick-requires
 pick-requires c κs = search needs
 
+-- past the second test a server was picked
+chosen : (c : tie.Then2)
+    → picked (c .before .before .before .before .args .d) < c .before .before .before .before .args .d .count
+chosen c =
+    subst (λ (i : ℕ). i < c .before .before .before .before .args .d .count) (c .before .pick .ensures) (c .if2 .taken)
+
 run-requires : tie.Need-run-requires
 run-requires c κs =
-    let ok = c .before .before .before .before .pre in
-    let chosen = rw (c .before .pick .ensures) at (c .if2 .taken) in (
+    let ok = c .before .before .before .before .pre in (
       ok,
       (
         before-end ok (c .before .before .if1 .left),
         (
           c .if2 .taken,
-          rw (c .before .pick .ensures) (picked-earliest _ chosen .works),
+          rw (c .before .pick .ensures) (picked-earliest _ (chosen c) .works),
         ),
       ),
     )
 
 returns-2 : tie.Need-returns-2
 returns-2 c =
-    let chosen = rw (c .before .before .pick .ensures) at (c .before .if2 .taken) in
     and-within (tick-within (c .before .before .before .before .before .pre))
     (c .run .ensures
-    ∙ rw (c .before .before .pick .ensures) (sym (tick-ran _ (c .before .before .before .if1 .left) chosen)))
+    ∙ rw (c .before .before .pick .ensures) (sym (tick-ran _ (c .before .before .before .if1 .left) (chosen (c .before)))))
 
 later-requires : tie.Need-later-requires
 later-requires c κs = search needs

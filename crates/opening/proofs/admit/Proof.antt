@@ -1,8 +1,7 @@
 -- `opening::admit` meets its promise: after k turns none of the first k servers is faulty, and `sum` is the sum of their shares.
 use Prim.Native.Nat.{ℕ, suc, _+_, _/_, _-_, _≤_}
 use lib.ListN.{length}
-use mathlib.Core.Bool.{false}
-use mathlib.Core.Path.{_≡_, sym, subst}
+use mathlib.Core.Path.{sym, subst}
 use native.Mathlib.Nat.{le-antisymm, mul-le-mul}
 use native.Mathlib.Numerals.{add-one}
 use native.Mathlib.Omega.{arith}

@@ -1,8 +1,8 @@
 -- `opening::start` meets its promise: after k turns the places are those of the table's first k servers.
-use Prim.Native.Nat.{ℕ, _/_, _-_, _≤_}
+use Prim.Native.Nat.{_/_, _-_, _≤_}
 use borrow.Author.Needs.{needs}
 use lib.ListN.{length}
-use mathlib.Core.Path.{_≡_, refl, sym, _∙_, ap}
+use mathlib.Core.Path.{_≡_, refl}
 use native.Mathlib.Nat.{le-antisymm}
 use native.Mathlib.Numerals.{add-one}
 use native.Mathlib.Omega.{arith}
@@ -13,11 +13,6 @@ use Rattle.sizes.specs.Sizes.{mostServers}
 use Rattle.opening.specs.Opening.{listed}
 use Rattle.opening.proofs.start.Statement.{statement}
 use Rattle.opening.proofs.start.Tie as tie
-use Rattle.opening.proofs.start.Reads as reads
-use Rattle.opening.proofs.start.Lts as lts
-use Rattle.opening.proofs.booking_at.Reads as booking-at-reads
-use Rattle.server.proofs.blank.Reads as blank-reads
-use Rattle.server.proofs.fresh.Reads as fresh-reads
 
 abbrev Inv-loop : tie.InvT-loop
 Inv-loop table frame count servers₀ k₀ servers k =

@@ -1,5 +1,5 @@
 -- `dispatcher::picking::pick` meets its promise: after i turns `best` is the earliest of the first i servers, or none of them works.
-use Prim.Native.Nat.{ℕ, suc, _+_, _-_, _≤_, _<_}
+use Prim.Native.Nat.{ℕ, suc, _-_, _≤_, _<_}
 use borrow.Author.Needs.{needs}
 use mathlib.Core.Bool.{Bool, true, false, cond, true≢false}
 use mathlib.Core.Logic.{⊎-elim}
@@ -18,9 +18,6 @@ use Rattle.dispatcher.specs.PickLaws.{Earliest, NoneWorks, none-more, ea
 use Rattle.dispatcher.specs.Within.{Within}
 use Rattle.dispatcher.proofs.picking.pick.Statement.{statement}
 use Rattle.dispatcher.proofs.picking.pick.Tie as tie
-use Rattle.dispatcher.proofs.picking.pick.Reads as reads
-use Rattle.dispatcher.proofs.picking.pick.Lts as lts
-use Rattle.dispatcher.proofs.picking.due.Reads as due-reads
 
 -- what the loop knows of the first k servers
 data Sofar (d : Dispatcher) (k best least : ℕ) : Type 0 where

@@ -1,7 +1,7 @@
 -- `dispatcher::taking::is_renewed` meets its promise: a deadline that has passed is the definition's second test; ahead of it only the
 -- first is left, and both its products fit.
 use borrow.Author.Needs.{needs}
-use mathlib.Core.Path.{sym, _∙_}
+use mathlib.Core.Path.{sym}
 use native.Mathlib.Omega.{arith}
 use Rattle.server.specs.MoveLaws.{renews-passed, renews-ahead}
 use Rattle.server.specs.RangeLaws.{ahead-fits, remaining-fits}
