@@ -5,7 +5,7 @@ use lib.Dec.{leb}
 use mathlib.Core.Bool.{Bool, true, false, _||_, true≢false}
 use mathlib.Core.Logic.{_⊎_, inl, inr}
 use mathlib.Core.Path.{_≡_, refl, sym, _∙_, subst⁻¹}
-use native.Mathlib.Decide.{decLt}
+use native.Mathlib.Decide.{decLt, ℕ-discrete}
 use native.Mathlib.Nat.{not-suc-le-zero}
 use native.Mathlib.Omega.{arith}
 use Rattle.counting.specs.Below.{below-suc, every-from, every-fails}
@@ -17,13 +17,13 @@ use Rattle.dispatcher.specs.Pick.{serverAt, mayRun, picked}
 abbrev deadlineAt : Dispatcher → ℕ → ℕ
 deadlineAt d i = serverAt d i .deadline .tick
 
--- server i among the first k: it has work, its deadline is the earliest of those with work, and of those with the same deadline it
--- has the lowest number
+-- "Among servers with waiting work the one with the earliest deadline runs; equal deadlines go to the lower number." Of the first k
+-- servers, that one is i:
 pub record Earliest (d : Dispatcher) (k i : ℕ) : Type 0 where
   pub among : i < k
   pub works : idle (serverAt d i) ≡ false
   pub least : (j : ℕ) → j < k → idle (serverAt d j) ≡ false → serverAt d i .deadline .tick ≤ serverAt d j .deadline .tick
-  pub lowest : (j : ℕ) → j < i → idle (serverAt d j) ≡ false → serverAt d i .deadline .tick < serverAt d j .deadline .tick
+  pub ties : (j : ℕ) → j < k → idle (serverAt d j) ≡ false → serverAt d j .deadline .tick ≡ serverAt d i .deadline .tick → i ≤ j
 
 -- none of the first k has work
 abbrev pub NoneWorks : Dispatcher → ℕ → Type 0
@@ -48,7 +48,10 @@ module _ (d : Dispatcher) (k : ℕ) where
             below-suc (λ (j : ℕ). idle (serverAt d j) ≡ false → deadlineAt d k ≤ deadlineAt d j) k
             (λ j h w. works-not (none j h) w)
             (λ w. omega arith);
-        lowest = λ j h w. works-not (none j h) w;
+        ties =
+            below-suc (λ (j : ℕ). idle (serverAt d j) ≡ false → deadlineAt d j ≡ deadlineAt d k → k ≤ j) k
+            (λ j h w. works-not (none j h) w)
+            (λ w q. omega arith);
       }
 
   -- one more that is idle, or whose deadline is no earlier
@@ -59,7 +62,9 @@ module _ (d : Dispatcher) (k : ℕ) where
         among = omega (arith, e .among);
         works = e .works;
         least = below-suc (λ (j : ℕ). idle (serverAt d j) ≡ false → deadlineAt d i ≤ deadlineAt d j) k (e .least) h;
-        lowest = e .lowest;
+        ties =
+            below-suc (λ (j : ℕ). idle (serverAt d j) ≡ false → deadlineAt d j ≡ deadlineAt d i → i ≤ j) k (e .ties)
+            (λ w q. omega (arith, e .among));
       }
 
   -- one more whose deadline is earlier
@@ -73,8 +78,23 @@ module _ (d : Dispatcher) (k : ℕ) where
             below-suc (λ (j : ℕ). idle (serverAt d j) ≡ false → deadlineAt d k ≤ deadlineAt d j) k
             (λ j b v. omega (arith, e .least j b v))
             (λ v. omega arith);
-        lowest = λ j b v. omega (arith, e .least j b v);
+        ties =
+            below-suc (λ (j : ℕ). idle (serverAt d j) ≡ false → deadlineAt d j ≡ deadlineAt d k → k ≤ j) k
+            (λ j b v q. omega (arith, e .least j b v))
+            (λ v q. omega arith);
       }
+
+-- so a lower number with work has a later deadline
+earliest-lowest : {d : Dispatcher} {k i : ℕ} → Earliest d k i → (j : ℕ) → j < i → idle (serverAt d j) ≡ false
+    → deadlineAt d i < deadlineAt d j
+earliest-lowest {d} {k} {i} e j h w = go (ℕ-discrete (deadlineAt d j) (deadlineAt d i))
+  where
+    below : j < k
+    below = omega (arith, e .among)
+
+    go : Dec (deadlineAt d j ≡ deadlineAt d i) → deadlineAt d i < deadlineAt d j
+    go (yes q) = let no : ⊥ = omega (arith, e .ties j below w q) in absurd no
+    go (no q) = omega (arith, e .least j below w)
 
 -- among the first k either none works or one is the earliest
 none-or-earliest : (d : Dispatcher) (k : ℕ) → NoneWorks d k ⊎ ((i : ℕ) × Earliest d k i)
@@ -115,7 +135,7 @@ module _ (d : Dispatcher) where
         where
           go : (b : Bool) → idle (serverAt d j) ≡ b → mayRun d j ≡ false
           go true w = rw w
-          go false w = rw w (every-fails (d .count) (no-earlier j) i (e .among) (rw (e .works, lt-leb _ _ (e .lowest j h w))))
+          go false w = rw w (every-fails (d .count) (no-earlier j) i (e .among) (rw (e .works, lt-leb _ _ (earliest-lowest e j h w))))
 
   -- where none works none is picked
   pub none-picked : NoneWorks d (d .count) → picked d ≡ d .count

@@ -32,6 +32,7 @@ pub data Said (A : Type 0) : Type 0 where
 abbrev pub accepted : Said (Unit {0})
 accepted = gave tt
 
+-- what each case of a verdict says
 abbrev pub onPaper : Verdict → Said (Unit {0})
 onPaper Accepted = accepted
 onPaper (Refused r) = refused (numberOf r) (placeOf r)
