@@ -17,7 +17,6 @@ use clock::Moment;
 use dispatcher::Dispatcher;
 use refusal::Refusal;
 use refusal::Verdict;
-use server::Server;
 
 pub struct Opened {
     pub answer: Verdict,
