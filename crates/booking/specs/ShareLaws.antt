@@ -27,8 +27,8 @@ sound H b e =
       divides = omega (arith, div-add-mod (H .ticks) (b .period .ticks));
     }
 
--- Where every T divides H the share is exact: share × T = Q × H. So the sum of the shares is at most H just where the sum of Q/T is at
--- most 1.
+-- Where T divides H the share is exact: share × T = Q × H. It is Q/T of the frame, with nothing rounded, which is why the rules may add
+-- shares where the sources add fractions.
 pub share-exact : (H : Length) (b : Booking) → Sound H b → share H b .ticks * b .period .ticks ≡ b .budget .ticks * H .ticks
 share-exact H b s =
     omega (arith, ap (λ (h : ℕ). b .budget .ticks * h) (s .divides))

@@ -1,11 +1,11 @@
 -- Whether every number below a bound passes a test.
 use Prim.Native.Nat.{ℕ, zero, suc, _<_}
-use mathlib.Core.Bool.{Bool, true, false, true≢false, _&&_}
+use mathlib.Core.Bool.{Bool, true, false, _&&_}
 use mathlib.Core.Logic.{⊎-elim}
-use mathlib.Core.Path.{_≡_, refl, sym, _∙_, subst⁻¹}
+use mathlib.Core.Path.{_≡_, refl, subst⁻¹}
 use native.Mathlib.Nat.{eq-or-lt-of-le, le-of-suc-le-suc, not-suc-le-zero}
 use native.Mathlib.Omega.{arith}
-use Rattle.counting.specs.Tests.{and-left, and-right, and-both}
+use Rattle.counting.specs.Tests.{and-left, and-right, and-both, not-both}
 
 -- every number below n passes
 unfoldable pub every : ℕ → (ℕ → Bool) → Bool
@@ -39,5 +39,5 @@ pub every-fails : (n : ℕ) (p : ℕ → Bool) (i : ℕ) → i < n → p i ≡ f
 every-fails n p i h e = go (every n p) refl
   where
     go : (b : Bool) → every n p ≡ b → every n p ≡ false
-    go true q = absurd (true≢false (sym (every-at n p q i h) ∙ e))
+    go true q = not-both (every-at n p q i h) e
     go false q = q

@@ -1,6 +1,6 @@
 -- Laws of tests that are joined by "and" and by "or".
 use mathlib.Core.Bool.{Bool, true, false, true≢false, false≢true, _&&_, _||_}
-use mathlib.Core.Path.{_≡_, refl}
+use mathlib.Core.Path.{_≡_, refl, sym, _∙_}
 
 -- a conjunction that holds has both parts
 pub and-left : (a b : Bool) → (a && b) ≡ true → a ≡ true
@@ -14,6 +14,10 @@ and-right false b e = absurd (false≢true e)
 -- and one with both parts holds
 pub and-both : {a b : Bool} → a ≡ true → b ≡ true → (a && b) ≡ true
 and-both p q = rw (p, q)
+
+-- no test both passes and fails
+pub not-both : {A : Type 0} {b : Bool} → b ≡ true → b ≡ false → A
+not-both p q = absurd (true≢false (sym p ∙ q))
 
 -- "or" with a test that is known
 pub or-true : (b : Bool) → (b || true) ≡ true

@@ -2,14 +2,15 @@
 use Prim.Native.Nat.{ℕ, zero, suc, _≤_, _<_}
 use borrow.Author.Tests.{le-leb, lt-leb}
 use lib.Dec.{leb}
-use mathlib.Core.Bool.{Bool, true, false, _||_, true≢false}
+use mathlib.Core.Bool.{Bool, true, false, _||_}
 use mathlib.Core.Logic.{_⊎_, inl, inr}
-use mathlib.Core.Path.{_≡_, refl, sym, _∙_, subst⁻¹}
+use mathlib.Core.Path.{_≡_, refl, subst⁻¹}
 use native.Mathlib.Decide.{decLt, ℕ-discrete}
 use native.Mathlib.Nat.{not-suc-le-zero}
 use native.Mathlib.Omega.{arith}
 use Rattle.counting.specs.Below.{below-suc, every-from, every-fails}
 use Rattle.counting.specs.First.{first-is, first-none}
+use Rattle.counting.specs.Tests.{not-both}
 use Rattle.server.specs.Server.{idle}
 use Rattle.dispatcher.specs.declared.Dispatcher.{Dispatcher}
 use Rattle.dispatcher.specs.Pick.{serverAt, mayRun, picked}
@@ -29,10 +30,6 @@ pub record Earliest (d : Dispatcher) (k i : ℕ) : Type 0 where
 abbrev pub NoneWorks : Dispatcher → ℕ → Type 0
 NoneWorks d k = (j : ℕ) → j < k → idle (serverAt d j) ≡ true
 
--- a server does not both work and idle
-works-not : {A : Type 0} {b : Bool} → b ≡ true → b ≡ false → A
-works-not p q = absurd (true≢false (sym p ∙ q))
-
 -- How the first k + 1 go on from the first k.
 module _ (d : Dispatcher) (k : ℕ) where
   pub none-more : NoneWorks d k → idle (serverAt d k) ≡ true → NoneWorks d (suc k)
@@ -46,11 +43,11 @@ module _ (d : Dispatcher) (k : ℕ) where
         works = e;
         least =
             below-suc (λ (j : ℕ). idle (serverAt d j) ≡ false → deadlineAt d k ≤ deadlineAt d j) k
-            (λ j h w. works-not (none j h) w)
+            (λ j h w. not-both (none j h) w)
             (λ w. omega arith);
         ties =
             below-suc (λ (j : ℕ). idle (serverAt d j) ≡ false → deadlineAt d j ≡ deadlineAt d k → k ≤ j) k
-            (λ j h w. works-not (none j h) w)
+            (λ j h w. not-both (none j h) w)
             (λ w q. omega arith);
       }
 
@@ -110,7 +107,7 @@ none-or-earliest d (suc k) = go (none-or-earliest d k) (idle (serverAt d k)) ref
         → NoneWorks d (suc k) ⊎ ((i : ℕ) × Earliest d (suc k) i)
     go (inl none) true w = inl (none-more d k none w)
     go (inl none) false w = inr (k, earliest-first d k none w)
-    go (inr found) true w = inr (found .0, earliest-stays d k (found .0) (found .1) (λ v. works-not w v))
+    go (inr found) true w = inr (found .0, earliest-stays d k (found .0) (found .1) (λ v. not-both w v))
     go (inr found) false w = later (found .0) (found .1) w (decLt _ _)
 
 module _ (d : Dispatcher) where

@@ -1,4 +1,4 @@
--- A dispatcher at its start: the clock at 0, and c, d and w of every server (document 01: "All are 0 at the start").
+-- A dispatcher at its start: the clock is at 0, and so are c, d and w of every server (document 01: "All are 0 at the start").
 use Prim.Native.Nat.{ℕ}
 use lib.Dec.{ltb}
 use mathlib.Core.Bool.{cond}
@@ -15,6 +15,7 @@ use Rattle.dispatcher.specs.declared.Dispatcher.{Dispatcher}
 abbrev pub startAt : Table → ℕ → Server
 startAt t k = cond (ltb k (t .count)) (fresh (t .booking k)) blank
 
+-- the dispatcher of a frame and a table
 unfoldable pub atStart : Length → Table → Dispatcher
 atStart H t =
     record {

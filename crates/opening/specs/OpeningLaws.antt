@@ -52,19 +52,18 @@ in-range numbers H e =
     }
 
 -- what an accepted table is
-pub accepted-in-range : (l : List ℕ) (H : Length) → judged l H ≡ accepted → InRange (length l) H
-accepted-in-range l H e = go (outOfRange (length l) H) refl
+accepted-not-out : (l : List ℕ) (H : Length) → judged l H ≡ accepted → outOfRange (length l) H ≡ false
+accepted-not-out l H e = go (outOfRange (length l) H) refl
   where
-    go : (m : Bool) → outOfRange (length l) H ≡ m → InRange (length l) H
-    go true m = absurd (refused≢gave (sym (judged-out-of-range l H m) ∙ e))
-    go false m = in-range (length l) H m
+    go : (o : Bool) → outOfRange (length l) H ≡ o → outOfRange (length l) H ≡ false
+    go true o = absurd (refused≢gave (sym (judged-out-of-range l H o) ∙ e))
+    go false o = o
+
+pub accepted-in-range : (l : List ℕ) (H : Length) → judged l H ≡ accepted → InRange (length l) H
+accepted-in-range l H e = in-range (length l) H (accepted-not-out l H e)
 
 pub accepted-admitted : (l : List ℕ) (H : Length) → judged l H ≡ accepted → Admitted H (listed l)
-accepted-admitted l H e = go (outOfRange (length l) H) refl
-  where
-    go : (m : Bool) → outOfRange (length l) H ≡ m → Admitted H (listed l)
-    go true m = absurd (refused≢gave (sym (judged-out-of-range l H m) ∙ e))
-    go false m = admitted H (listed l) (sym (judged-in-range l H m) ∙ e)
+accepted-admitted l H e = admitted H (listed l) (sym (judged-in-range l H (accepted-not-out l H e)) ∙ e)
 
 pub opening-accepted : (l : List ℕ) (H : Length) → judged l H ≡ accepted
     → opening l H ≡ record { answer = accepted; dispatcher = atStart H (listed l) }

@@ -2,12 +2,12 @@
 use Prim.Native.Nat.{_-_, _*_, _≤_, _<_}
 use borrow.Author.Tests.{leb-true, leb-false, le-leb, lt-leb, eq-eqb, ne-eqb}
 use lib.Dec.{leb}
-use mathlib.Core.Bool.{Bool, true, false, true≢false}
-use mathlib.Core.Path.{_≡_, refl, sym, _∙_}
+use mathlib.Core.Bool.{Bool, true, false}
+use mathlib.Core.Path.{_≡_, refl}
 use Rattle.clock.specs.declared.Length.{Length}
 use Rattle.clock.specs.declared.Moment.{Moment}
 use Rattle.clock.specs.Clock.{until}
-use Rattle.counting.specs.Tests.{or-true, or-false}
+use Rattle.counting.specs.Tests.{not-both, or-true, or-false}
 use Rattle.server.specs.declared.Server.{Server}
 use Rattle.server.specs.Moves.{renews, renewed, withWork, arrived, oneTickLess, postponed, served}
 
@@ -27,7 +27,7 @@ pub keeps-ahead : (s : Server) (t : Moment) → renews s t ≡ false → t .tick
 keeps-ahead s t e = go (leb (s .deadline .tick) (t .tick)) refl
   where
     go : (b : Bool) → leb (s .deadline .tick) (t .tick) ≡ b → t .tick < s .deadline .tick
-    go true q = absurd (true≢false (sym (renews-passed s t (leb-true _ _ q)) ∙ e))
+    go true q = not-both (renews-passed s t (leb-true _ _ q)) e
     go false q = leb-false _ _ q
 
 pub arrived-busy : (s : Server) (t : Moment) (cost : Length) → (s .waiting .ticks ≡ 0 → ⊥) → arrived s t cost ≡ withWork s cost

@@ -1,16 +1,20 @@
 -- `dispatcher::arrival` meets its promise: its three ways are the three cases of the definition, and what the definition gives is
 -- within the ranges.
-use Prim.Native.Nat.{_+_, _≤_, _<_}
+use Prim.Native.Nat.{ℕ, _+_, _≤_, _<_}
 use borrow.Author.Needs.{needs}
 use mathlib.Core.Bool.{false}
-use mathlib.Core.Path.{_≡_, sym, _∙_}
+use mathlib.Core.Path.{_≡_, sym, _∙_, ap}
 use native.Mathlib.Omega.{arith}
 use Rattle.arrival.specs.Arrival.{faulty}
 use Rattle.arrival.specs.ArrivalLaws.{sound}
+use Rattle.refusal.specs.Refusals.{accepted}
+use Rattle.server.specs.declared.Server.{Server}
 use Rattle.server.specs.Ranges.{Ranged}
 use Rattle.sizes.specs.Sizes.{mostWaiting}
 use Rattle.dispatcher.specs.MoveLaws.{arrival-faulty, arrival-too-much, arrival-whole, arrival-within, and-within}
 use Rattle.dispatcher.specs.Moves.{arrival}
+use Rattle.dispatcher.specs.declared.Dispatcher.{Dispatcher}
+use Rattle.dispatcher.specs.Moves.{Moved, withServer}
 use Rattle.dispatcher.specs.Pick.{serverAt}
 use Rattle.dispatcher.proofs.arrival.Statement.{statement}
 use Rattle.dispatcher.proofs.arrival.Tie as tie
@@ -71,10 +75,16 @@ mul-t14 c = omega (arith, below (c .before .before .before .before))
 element-set-from-taken : tie.Need-element-set-from-taken
 element-set-from-taken c = below (c .before .before .before .before)
 
+-- what is handed back with a server in the place of the one that took the work
+abbrev handedBack : Dispatcher → ℕ → Server → Moved (Unit {0})
+handedBack d i s = record { answer = accepted; dispatcher = withServer d i s }
+
 returns-3 : tie.Need-returns-3
 returns-3 c =
+    let given = c .before .before .before .before .before .before .before .args in
     and-within (arrival-within (c .before .before .before .before .before .before .before .pre) _ _)
-    (rw (c .take .ensures) (sym (arrival-whole _ _ _ (no-fault (c .before .before .before .before)) (fits (c .before)))))
+    (ap (handedBack (given .t1) (given .server)) (c .take .ensures)
+    ∙ sym (arrival-whole _ _ _ (no-fault (c .before .before .before .before)) (fits (c .before))))
 
 pub arrival-spec : {M : Type 1} → statement M
 arrival-spec =

@@ -1,14 +1,22 @@
 -- `dispatcher::run` meets its promise: its two ways are the two cases of the server's tick, the last of a budget and any other.
-use Prim.Native.Nat.{_<_}
+use Prim.Native.Nat.{ℕ, _+_, _≤_, _<_}
 use borrow.Author.Needs.{needs}
 use borrow.Author.Tests.{eqb-false}
-use mathlib.Core.Path.{sym, _∙_}
+use lib.ListN.{set}
+use mathlib.Core.Bool.{Bool, true, false}
+use mathlib.Core.Path.{_≡_, sym, _∙_, ap, ap₂, subst, subst⁻¹}
 use native.Mathlib.Nat.{pos-of-ne-zero}
 use native.Mathlib.Omega.{arith}
-use Rattle.clock.specs.Clock.{shown-whole}
+use Rattle.clock.specs.declared.Moment.{Moment}
+use Rattle.clock.specs.Clock.{lastTick, shown-whole}
+use Rattle.refusal.specs.Refusals.{gave}
+use Rattle.server.specs.declared.Server.{Server}
+use Rattle.server.specs.Moves.{postponed}
 use Rattle.server.specs.RangeLaws.{busy-charged, deadline-fits}
 use Rattle.server.specs.Ranges.{Ranged}
+use Rattle.dispatcher.specs.declared.Dispatcher.{Dispatcher}
 use Rattle.dispatcher.specs.MoveLaws.{ran-last, ran-more}
+use Rattle.dispatcher.specs.Moves.{Moved, Turn, ranOne}
 use Rattle.dispatcher.specs.Pick.{serverAt}
 use Rattle.dispatcher.proofs.run.Statement.{statement}
 use Rattle.dispatcher.proofs.run.Tie as tie
@@ -38,7 +46,8 @@ later-requires c κs = search needs
 postpone-requires : tie.Need-postpone-requires
 postpone-requires c κs =
     let start = c .before .before .before .before .before .before .before in
-    rw (c .before .before .before .one-tick-less .ensures) (deadline-fits (ranged start) (start .pre .0 .clock))
+    subst⁻¹ (λ (s : Server). s .deadline .tick + s .period .ticks ≤ lastTick) (c .before .before .before .one-tick-less .ensures)
+    (deadline-fits (ranged start) (start .pre .0 .clock))
 
 mul-t18 : tie.Need-mul-t18
 mul-t18 c = omega (arith, below (c .before .before .before .before .before .before .before .before))
@@ -46,12 +55,22 @@ mul-t18 c = omega (arith, below (c .before .before .before .before .before .befo
 element-set-from-next : tie.Need-element-set-from-next
 element-set-from-next c = below (c .before .before .before .before .before .before .before .before)
 
+-- what is handed back with a clock and with a server in the place of the one that ran
+abbrev handedBack : Dispatcher → ℕ → Bool → Moment → Server → Moved Turn
+handedBack d i last m s =
+    record {
+      answer = gave (ranOne i (serverAt d i .deadline) last);
+      dispatcher = record { frame = d .frame; count = d .count; clock = m; servers = set (d .servers) i s };
+    }
+
 returns : tie.Need-returns
 returns c =
     let start = c .before .before .before .before .before .before .before .before in
     let less = c .before .before .before .before .one-tick-less .ensures in
-    rw (c .postpone .ensures, less, c .before .before .before .later .ensures ∙ shown-whole _ (omega (arith, start .pre .1 .0)))
-    (sym (ran-last _ _ (rw less at (c .before .if1 .taken))))
+    ap₂ (handedBack (start .args .t1) (start .args .i) true)
+    (c .before .before .before .later .ensures ∙ shown-whole _ (omega (arith, start .pre .1 .0)))
+    (c .postpone .ensures ∙ ap postponed less)
+    ∙ sym (ran-last _ _ (subst (λ (s : Server). s .remaining .ticks ≡ 0) less (c .before .if1 .taken)))
 
 mul-less : tie.Need-mul-less
 mul-less c = omega (arith, below (c .before .before .before .before .before .before .before))
@@ -63,8 +82,10 @@ returns-2 : tie.Need-returns-2
 returns-2 c =
     let start = c .before .before .before .before .before .before .before in
     let less = c .before .before .before .one-tick-less .ensures in
-    rw (less, c .before .before .later .ensures ∙ shown-whole _ (omega (arith, start .pre .1 .0)))
-    (sym (ran-more _ _ (rw less at (c .if1 .left))))
+    ap₂ (handedBack (start .args .t1) (start .args .i) false)
+    (c .before .before .later .ensures ∙ shown-whole _ (omega (arith, start .pre .1 .0)))
+    less
+    ∙ sym (ran-more _ _ (subst (λ (s : Server). s .remaining .ticks ≡ 0 → ⊥) less (c .if1 .left)))
 
 pub run-spec : {M : Type 1} → statement M
 run-spec =

@@ -1,7 +1,7 @@
 -- `dispatcher::picking::pick` meets its promise: after i turns `best` is the earliest of the first i servers, or none of them works.
 use Prim.Native.Nat.{ℕ, suc, _-_, _≤_, _<_}
 use borrow.Author.Needs.{needs}
-use mathlib.Core.Bool.{Bool, true, false, cond, true≢false}
+use mathlib.Core.Bool.{Bool, true, false, cond}
 use mathlib.Core.Logic.{⊎-elim}
 use mathlib.Core.Path.{_≡_, refl, sym, _∙_, subst}
 use native.Mathlib.Nat.{not-suc-le-zero}
@@ -9,6 +9,7 @@ use native.Mathlib.Numerals.{add-one}
 use native.Mathlib.Omega.{arith}
 use Rattle.clock.specs.declared.Moment.{Moment}
 use Rattle.clock.specs.Clock.{lastTick, moment}
+use Rattle.counting.specs.Tests.{not-both}
 use Rattle.server.specs.declared.Server.{Server}
 use Rattle.server.specs.RangeLaws.{deadline-fits}
 use Rattle.server.specs.Server.{idle}
@@ -48,7 +49,7 @@ module _ (d : Dispatcher) (ok : Within d) (k : ℕ) (h : k < d .count) where
     where
       go : (b : Bool) → idle (serverAt d k) ≡ b → Sofar d k best least → Sofar d (suc k) best least
       go true e (nobody q l none) = nobody q l (none-more d k none e)
-      go true e (somebody f l) = somebody (earliest-stays d k best f (λ w. absurd (true≢false (sym e ∙ w)))) l
+      go true e (somebody f l) = somebody (earliest-stays d k best f (λ w. not-both e w)) l
       go false e (nobody q l none) = let no : ⊥ = omega (arith, rw e at t, before-last k h) in absurd no
       go false e (somebody f l) = somebody (earliest-stays d k best f (λ w. omega (arith, rw e at t))) l
 
