@@ -1,6 +1,6 @@
 -- What an arrival without a fault has.
 use Prim.Native.Nat.{ℕ, _≤_, _<_}
-use borrow.Author.Tests.{leb-false, ltb-false}
+use borrow.Author.Tests.{leb-false, ltb-false, lt-leb, le-ltb}
 use lib.Dec.{leb}
 use mathlib.Core.Bool.{false}
 use mathlib.Core.Path.{_≡_}
@@ -22,3 +22,8 @@ sound n server cost e =
       from = ltb-false _ _ (tests .1);
       to = ltb-false _ _ (tests .2);
     }
+
+-- and what has that is without a fault
+pub not-faulty : (n server : ℕ) (cost : Length) → Sound n server cost → faulty n server cost ≡ false
+not-faulty n server cost s =
+    rw (lt-leb n server (s .known), le-ltb (cost .ticks) 1 (s .from), le-ltb mostCost (cost .ticks) (s .to))

@@ -1,7 +1,14 @@
-// An arrival brings work to one server: whether what it names can be taken.
+// An arrival brings work to one server at one moment: whether what it names can be taken.
 ghost use mathlib.Core.Path.{_≡_};
 ghost use Rattle.arrival.specs.Arrival.{faulty};
 use clock::Length;
+use clock::Moment;
+
+pub struct Arrival {
+    pub moment: Moment,
+    pub server: usize,
+    pub cost: Length,
+}
 
 // Whether an arrival at a table of `count` servers names no server of it, or a cost out of range.
 pub fn is_faulty(count: usize, server: usize, cost: Length) -> bool

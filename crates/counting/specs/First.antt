@@ -1,8 +1,8 @@
 -- The first number below a bound that passes a test.
-use Prim.Native.Nat.{ℕ, zero, suc, _<_, zero-le, suc-le-suc}
+use Prim.Native.Nat.{ℕ, zero, suc, _≤_, _<_, zero-le, suc-le-suc}
 use mathlib.Core.Bool.{Bool, true, false, cond}
 use mathlib.Core.Path.{_≡_, refl, ap, subst}
-use native.Mathlib.Nat.{le-of-suc-le-suc, not-suc-le-zero}
+use native.Mathlib.Nat.{le-of-suc-le-suc, le-trans, not-suc-le-zero}
 
 -- the first number below n that passes, and n where none does
 unfoldable pub first : ℕ → (ℕ → Bool) → ℕ
@@ -24,6 +24,19 @@ unfolding first
 first-none zero p before = refl
 first-none (suc n) p before =
     rw (before zero (suc-le-suc zero-le)) (ap suc (first-none n (λ j. p (suc j)) (λ j b. before (suc j) (suc-le-suc b))))
+
+-- it is n at most
+pub first-le : (n : ℕ) (p : ℕ → Bool) → first n p ≤ n
+unfolding first
+first-le zero p = zero-le
+first-le (suc n) p = go (p zero) refl (first-le n (λ i. p (suc i)))
+  where
+    rest : ℕ
+    rest = first n (λ i. p (suc i))
+
+    go : (b : Bool) → p zero ≡ b → rest ≤ n → cond (p zero) zero (suc rest) ≤ suc n
+    go true e h = rw e zero-le
+    go false e h = rw e (suc-le-suc h)
 
 -- where it is below n, it passes
 pub first-passes : (n : ℕ) (p : ℕ → Bool) → first n p < n → p (first n p) ≡ true
@@ -55,3 +68,7 @@ first-before (suc n) p (suc j) h = go (p zero) refl (first-before n (λ i. p (su
     go : (b : Bool) → p zero ≡ b → (j < rest → p (suc j) ≡ false) → p (suc j) ≡ false
     go true e later = absurd (not-suc-le-zero (subst (λ (b : Bool). suc j < cond b zero (suc rest)) e h))
     go false e later = later (le-of-suc-le-suc (subst (λ (b : Bool). suc j < cond b zero (suc rest)) e h))
+
+-- one that is below n is the first below any greater bound
+pub first-more : (n m : ℕ) (p : ℕ → Bool) → first n p < n → n ≤ m → first m p ≡ first n p
+first-more n m p h b = first-is m p (first n p) (le-trans h b) (first-passes n p h) (λ j q. first-before n p j q)

@@ -46,3 +46,9 @@ module _ {A : Type 0} where
   set-places (suc n) f g (suc k) h same =
       ap₂ _∷_ (same zero (omega arith))
       (set-places n (λ i. f (suc i)) (λ i. g (suc i)) k (le-of-suc-le-suc h) (λ i q. same (suc i) (omega arith)))
+
+  -- a list is the list of its own places
+  pub places-getD : (l : List A) (d : A) → places (length l) (λ i. getD l i d) ≡ l
+  unfolding places
+  places-getD [] d = refl
+  places-getD (a ∷ l) d = ap (_∷_ a) (places-getD l d)

@@ -15,6 +15,11 @@ and-right false b e = absurd (false≢true e)
 pub and-both : {a b : Bool} → a ≡ true → b ≡ true → (a && b) ≡ true
 and-both p q = rw (p, q)
 
+-- "and" with a test that fails
+pub and-false : (b : Bool) → (b && false) ≡ false
+and-false true = refl
+and-false false = refl
+
 -- no test both passes and fails
 pub not-both : {A : Type 0} {b : Bool} → b ≡ true → b ≡ false → A
 not-both p q = absurd (true≢false (sym p ∙ q))

@@ -5,12 +5,16 @@ use lib.ListN.{getD, replicate, set, List·getD-eq-default}
 use mathlib.Core.Logic.{_≢_}
 use mathlib.Core.Path.{_≡_, sym, _∙_}
 use native.Mathlib.Decide.{decLt}
+use native.Mathlib.Nat.{le-trans}
 use native.Mathlib.Omega.{arith}
 use Rattle.booking.specs.Admission.{Table}
+use Rattle.booking.specs.AdmissionLaws.{Admitted}
 use Rattle.booking.specs.declared.Booking.{Booking}
+use Rattle.booking.specs.ShareLaws.{period-le-frame}
 use Rattle.clock.specs.declared.Length.{Length}
 use Rattle.clock.specs.Clock.{moment}
 use Rattle.counting.specs.Places.{places, length-places, getD-places, places-same, places-replicate, set-places}
+use Rattle.server.specs.RangeLaws.{fresh-ranged}
 use Rattle.server.specs.Ranges.{Ranged}
 use Rattle.server.specs.Server.{blank, fresh}
 use Rattle.sizes.specs.Sizes.{mostFrame, mostServers}
@@ -65,3 +69,12 @@ module _ (H : Length) (t : Table) (from : 1 ≤ H .ticks) (to : H .ticks ≤ mos
       behind k h (yes b) = rw (at k b, le-ltb _ _ h)
       behind k h (no b) =
           List·getD-eq-default (places mostServers (startAt t)) blank (omega (arith, length-places mostServers (startAt t)))
+
+-- an admitted table's dispatcher starts within the ranges
+pub admitted-within : (H : Length) (t : Table) → 1 ≤ H .ticks → H .ticks ≤ mostFrame → t .count ≤ mostServers → Admitted H t
+    → Within (atStart H t)
+admitted-within H t from to few admitted =
+    start-within H t from to few
+    (λ k h.
+    let good = admitted .sound k h in
+    fresh-ranged (t .booking k) (moment 0) (good .budget) (good .fits) (le-trans (period-le-frame H (t .booking k) good from) to))

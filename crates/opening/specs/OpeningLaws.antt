@@ -6,23 +6,19 @@ use lib.ListN.{length}
 use mathlib.Core.Bool.{Bool, true, false}
 use mathlib.Core.List.{List}
 use mathlib.Core.Path.{_≡_, refl, sym, _∙_}
-use native.Mathlib.Nat.{le-trans, not-suc-le-zero}
+use native.Mathlib.Nat.{not-suc-le-zero}
 use native.Mathlib.Omega.{arith}
 use Rattle.booking.specs.Admission.{admission}
 use Rattle.booking.specs.AdmissionLaws.{Admitted, admitted}
 use Rattle.booking.specs.Share.{booked}
-use Rattle.booking.specs.ShareLaws.{period-le-frame}
 use Rattle.clock.specs.declared.Length.{Length}
-use Rattle.clock.specs.Clock.{moment, ticks}
+use Rattle.clock.specs.Clock.{ticks}
 use Rattle.counting.specs.Tests.{none-of-four}
 use Rattle.dispatcher.specs.Start.{atStart}
-use Rattle.dispatcher.specs.StartLaws.{start-within}
+use Rattle.dispatcher.specs.StartLaws.{admitted-within, start-within}
 use Rattle.dispatcher.specs.Within.{Within}
 use Rattle.refusal.specs.Told.{refused≢gave}
 use Rattle.refusal.specs.Refusals.{Said, refused, gave, accepted}
-use Rattle.server.specs.RangeLaws.{fresh-ranged}
-use Rattle.server.specs.Ranges.{Ranged}
-use Rattle.server.specs.Server.{fresh}
 use Rattle.sizes.specs.Sizes.{mostFrame, mostServers}
 use Rattle.opening.specs.Opening.{listed, outOfRange, judged, noServers, opening}
 
@@ -84,16 +80,9 @@ noServers-within =
 pub opening-within : (l : List ℕ) (H : Length) → Within (opening l H .dispatcher)
 opening-within l H = go (judged l H) refl
   where
-    ranged : judged l H ≡ accepted → (k : ℕ) → k < length l / 2 → Ranged (moment 0) (fresh (listed l .booking k))
-    ranged e k h =
-        let b = listed l .booking k in
-        let good = accepted-admitted l H e .sound k h in
-        let within = accepted-in-range l H e in
-        fresh-ranged b (moment 0) (good .budget) (good .fits)
-        (le-trans (period-le-frame H b good (within .from)) (within .to))
-
     go : (s : Said (Unit {0})) → judged l H ≡ s → Within (opening l H .dispatcher)
     go (refused number place) e = rw (opening-refused l H number place e) noServers-within
     go (gave u) e =
         let within = accepted-in-range l H e in
-        rw (opening-accepted l H e) (start-within H (listed l) (within .from) (within .to) (within .few) (ranged e))
+        rw (opening-accepted l H e)
+        (admitted-within H (listed l) (within .from) (within .to) (within .few) (accepted-admitted l H e))

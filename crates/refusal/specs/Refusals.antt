@@ -1,25 +1,35 @@
 -- Section "Refusal numbers" of document 01: the number and the place of each refusal, and what an answer says on paper.
 use Prim.Native.Nat.{ℕ}
 use Rattle.refusal.specs.declared.Refusal.{Refusal}
-use Rattle.refusal.specs.declared.Refusal.the-variants.{Sizes, FaultyServer, Shares, FaultyArrival, ClockEnd, WaitingWork}
+use Rattle.refusal.specs.declared.Refusal.the-variants.{FileLength, Sizes, Layout, FaultyServer, Shares, FaultyArrival, BackwardArrival, LateArrival, FinishList, ClockEnd, WaitingWork}
 use Rattle.refusal.specs.declared.Verdict.{Verdict}
 use Rattle.refusal.specs.declared.Verdict.the-variants.{Accepted, Refused}
 
 -- the column "No."
 abbrev pub numberOf : Refusal → ℕ
+numberOf FileLength = 1
 numberOf Sizes = 2
+numberOf Layout = 3
 numberOf (FaultyServer k) = 4
 numberOf Shares = 5
 numberOf (FaultyArrival k) = 6
+numberOf (BackwardArrival k) = 7
+numberOf (LateArrival k) = 8
+numberOf FinishList = 9
 numberOf ClockEnd = 10
 numberOf WaitingWork = 11
 
 -- the column "Place"
 abbrev pub placeOf : Refusal → ℕ
+placeOf FileLength = 0
 placeOf Sizes = 0
+placeOf Layout = 0
 placeOf (FaultyServer k) = k
 placeOf Shares = 0
 placeOf (FaultyArrival k) = k
+placeOf (BackwardArrival k) = k
+placeOf (LateArrival k) = k
+placeOf FinishList = 0
 placeOf ClockEnd = 0
 placeOf WaitingWork = 0
 
@@ -36,3 +46,8 @@ accepted = gave tt
 abbrev pub onPaper : Verdict → Said (Unit {0})
 onPaper Accepted = accepted
 onPaper (Refused r) = refused (numberOf r) (placeOf r)
+
+-- one judgement and then, where it accepts, another
+abbrev pub andThen : Said (Unit {0}) → Said (Unit {0}) → Said (Unit {0})
+andThen (refused number place) rest = refused number place
+andThen (gave u) rest = rest

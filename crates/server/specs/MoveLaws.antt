@@ -1,8 +1,8 @@
 -- The moves of one server case by case, so that no proof above has to open them.
-use Prim.Native.Nat.{_-_, _*_, _≤_, _<_}
+use Prim.Native.Nat.{_+_, _-_, _*_, _≤_, _<_}
 use borrow.Author.Tests.{leb-true, leb-false, le-leb, lt-leb, eq-eqb, ne-eqb}
-use lib.Dec.{leb}
-use mathlib.Core.Bool.{Bool, true, false}
+use lib.Dec.{eqb, leb}
+use mathlib.Core.Bool.{Bool, true, false, cond}
 use mathlib.Core.Path.{_≡_, refl}
 use Rattle.clock.specs.declared.Length.{Length}
 use Rattle.clock.specs.declared.Moment.{Moment}
@@ -43,6 +43,16 @@ pub arrived-kept : (s : Server) (t : Moment) (cost : Length) → s .waiting .tic
     → arrived s t cost ≡ withWork s cost
 unfolding arrived
 arrived-kept s t cost h e = rw (eq-eqb _ _ h, e)
+
+-- whatever it does besides, w grows by the cost
+pub arrived-waiting : (s : Server) (t : Moment) (cost : Length) → arrived s t cost .waiting .ticks ≡ s .waiting .ticks + cost .ticks
+unfolding arrived
+arrived-waiting s t cost = go (eqb (s .waiting .ticks) 0) (renews s t)
+  where
+    go : (i k : Bool) → (cond i (cond k (renewed s t) s) s) .waiting .ticks + cost .ticks ≡ s .waiting .ticks + cost .ticks
+    go true true = refl
+    go true false = refl
+    go false k = refl
 
 pub served-last : (s : Server) → s .remaining .ticks - 1 ≡ 0 → served s ≡ postponed (oneTickLess s)
 unfolding served

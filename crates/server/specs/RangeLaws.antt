@@ -126,7 +126,7 @@ served-ranged s t r w = go (eqb (s .remaining .ticks - 1) 0) refl
 
 -- Within their ranges the numbers that the moves work out fit 64 bits.
 module _ {t : Moment} {s : Server} (r : Ranged t s) (h : t .tick ≤ clockEnd) where
-  deadline-below : s .deadline .tick ≤ mostFrame * (clockEnd + 1)
+  pub deadline-below : s .deadline .tick ≤ mostFrame * (clockEnd + 1)
   deadline-below = le-trans (r .deadline) (mul-le-mul {m₂ = clockEnd + 1} (r .period) (omega arith))
 
   pub ahead-fits : until t (s .deadline) .ticks * s .budget .ticks ≤ lastTick

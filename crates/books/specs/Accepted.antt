@@ -1,0 +1,121 @@
+-- What the functions of a run may rely on: the file was accepted.
+use Prim.Native.Nat.{ℕ, suc, _+_, _*_, _≤_, _<_}
+use borrow.Author.Tests.{lt-ltb, le-ltb}
+use lib.Dec.{ltb}
+use lib.ListN.{length}
+use mathlib.Core.Bool.{cond}
+use mathlib.Core.List.{List}
+use mathlib.Core.Path.{_≡_, ap}
+use native.Mathlib.Decide.{decLt}
+use native.Mathlib.Omega.{arith}
+use Rattle.finish.specs.Finish.{workOf}
+use Rattle.refusal.specs.Refusals.{accepted}
+use Rattle.sizes.specs.Sizes.{arrivalBytes, serverBytes}
+use Rattle.workfile.specs.declared.Header.{Header}
+use Rattle.workfile.specs.Fit.{Fit, judged-fit, judged-placed, in-order-all}
+use Rattle.workfile.specs.Judgement.{judged}
+use Rattle.workfile.specs.JudgementLaws.{Placed}
+use Rattle.workfile.specs.Layout.{arrivalAt, bookingAt, header}
+use Rattle.workfile.specs.Work.{Work, work}
+use Rattle.books.specs.Jobs.{work-to}
+
+pub record Accepted (file : List ℕ) : Type 0 where
+  pub fit : Fit (work file) (work file .arrivals)
+  pub placed : Placed (header file) (length file)
+
+-- a work that fits beside one finish list fits beside any that is long enough
+pub fit-beside : {w : Work} {places : ℕ} (others : ℕ) → Fit w places → w .arrivals ≤ others → Fit w others
+fit-beside others fit long =
+    record {
+      frame-from = fit .frame-from;
+      frame-to = fit .frame-to;
+      horizon = fit .horizon;
+      servers = fit .servers;
+      arrivals = fit .arrivals;
+      admitted = fit .admitted;
+      sound = fit .sound;
+      in-order = fit .in-order;
+      in-time = fit .in-time;
+      finishes = long;
+    }
+
+pub judged-accepted : (file : List ℕ) (places : ℕ) → judged file places ≡ accepted → Accepted file
+judged-accepted file places e =
+    record {
+      fit = fit-beside (work file .arrivals) (judged-fit file places e) (omega arith);
+      placed = judged-placed file places e;
+    }
+
+-- What the header of a file tells of its work, as it was read.
+module _ (file : List ℕ) {h : Header} (read : h ≡ header file) where
+  pub arrivals-read : h .arrivals .count ≡ work file .arrivals
+  unfolding work
+  arrivals-read = ap (λ (x : Header). x .arrivals .count) read
+
+  pub horizon-read : h .horizon .tick ≡ work file .horizon .tick
+  unfolding work
+  horizon-read = ap (λ (x : Header). x .horizon .tick) read
+
+  pub frame-read : h .frame ≡ work file .frame
+  unfolding work
+  frame-read = ap (λ (x : Header). x .frame) read
+
+  pub servers-read : h .servers .count ≡ work file .table .count
+  unfolding work
+  servers-read = ap (λ (x : Header). x .servers .count) read
+
+  pub booking-read : (k : ℕ) → bookingAt file (h .servers .offset + serverBytes * k) ≡ work file .table .booking k
+  unfolding work
+  booking-read k = ap (λ (x : Header). bookingAt file (x .servers .offset + serverBytes * k)) read
+
+  -- a server's record starts in the file
+  pub booking-placed : Accepted file → (k : ℕ) → k < work file .table .count → h .servers .offset + serverBytes * k < length file
+  booking-placed ok k more =
+      omega (
+        arith,
+        ok .placed .laid .arrivals-from,
+        ok .placed .laid .arrivals-to,
+        servers-read,
+        ap (λ (x : Header). x .servers .count) read,
+        ap (λ (x : Header). x .servers .offset) read,
+      )
+
+  pub arrival-read : (k : ℕ) → arrivalAt file (h .arrivals .offset + arrivalBytes * k) ≡ work file .arrival k
+  unfolding work
+  arrival-read k = ap (λ (x : Header). arrivalAt file (x .arrivals .offset + arrivalBytes * k)) read
+
+  -- an arrival's record starts in the file
+  pub arrival-placed : Accepted file → (k : ℕ) → k < work file .arrivals → h .arrivals .offset + arrivalBytes * k < length file
+  arrival-placed ok k more =
+      omega (
+        arith,
+        ok .placed .laid .arrivals-to,
+        arrivals-read,
+        ap (λ (x : Header). x .arrivals .count) read,
+        ap (λ (x : Header). x .arrivals .offset) read,
+      )
+
+-- the moment of arrival j, or the horizon behind the last
+unfoldable pub nextMoment : Work → ℕ → ℕ
+nextMoment w j = cond (ltb j (w .arrivals)) (w .arrival j .moment .tick) (w .horizon .tick)
+
+pub next-arrival : (w : Work) (j : ℕ) → j < w .arrivals → nextMoment w j ≡ w .arrival j .moment .tick
+unfolding nextMoment
+next-arrival w j l = rw (lt-ltb j (w .arrivals) l)
+
+pub next-horizon : (w : Work) (j : ℕ) → w .arrivals ≤ j → nextMoment w j ≡ w .horizon .tick
+unfolding nextMoment
+next-horizon w j l = rw (le-ltb j (w .arrivals) l)
+
+-- r is the next job of server i from `from` on
+pub record NextJob (w : Work) (i from r : ℕ) : Type 0 where
+  pub own : w .arrival r .server ≡ i
+  pub none : workOf w i r ≡ workOf w i from
+
+-- where work of the server is still to come, the next job is one of the arrivals
+pub next-job-here : {w : Work} {i from k : ℕ} → workOf w i from < workOf w i (w .arrivals) → NextJob w i from k → k < w .arrivals
+next-job-here {w} {i} {from} {k} more next = go (decLt k (w .arrivals))
+  where
+    go : Dec (k < w .arrivals) → k < w .arrivals
+    go (yes l) = l
+    go (no l) = let no : ⊥ = omega (arith, more, next .none, work-to w i (w .arrivals) k (omega arith)) in absurd no

@@ -1,0 +1,56 @@
+-- The run of a work (document 01, "One moment of the clock"): at each moment the arrivals of that moment are taken in list order, and
+-- then the tick is given. Both are the live dispatcher's own moves.
+use Prim.Native.Nat.{ℕ, zero, suc}
+use lib.Dec.{eqb}
+use mathlib.Core.Bool.{Bool, false, cond, _&&_}
+use Rattle.counting.specs.Count.{count}
+use Rattle.dispatcher.specs.declared.Dispatcher.{Dispatcher}
+use Rattle.dispatcher.specs.Moves.{arrival, tick, Turn, idled, ranOne}
+use Rattle.dispatcher.specs.Pick.{serverAt}
+use Rattle.dispatcher.specs.Start.{atStart}
+use Rattle.history.specs.Choice.{Choice, nobody, given, History}
+use Rattle.refusal.specs.Refusals.{Said, refused, gave}
+use Rattle.workfile.specs.Work.{Work}
+
+-- step 1: "The arrivals of t are taken in list order." Of the first k arrivals those of the dispatcher's moment:
+unfoldable pub taken : Work → ℕ → Dispatcher → Dispatcher
+taken w zero d = d
+taken w (suc k) d =
+    cond (eqb (w .arrival k .moment .tick) (d .clock .tick))
+    (arrival (taken w k d) (w .arrival k .server) (w .arrival k .cost) .dispatcher)
+    (taken w k d)
+
+-- the dispatcher at moment t, before its arrivals are taken; steps 2 to 4 are a tick
+unfoldable pub atMoment : Work → ℕ → Dispatcher
+atMoment w zero = atStart (w .frame) (w .table)
+atMoment w (suc t) = tick (taken w (w .arrivals) (atMoment w t)) .dispatcher
+
+-- the dispatcher at moment t once its arrivals are in, and what its tick answers
+unfoldable pub ready : Work → ℕ → Dispatcher
+ready w t = taken w (w .arrivals) (atMoment w t)
+
+unfoldable pub turn : Work → ℕ → Said Turn
+turn w t = tick (ready w t) .answer
+
+-- what the tick of moment t is given to; the deadline is "the one in force before step 3"
+abbrev pub choiceOf : Said Turn → Choice
+choiceOf (refused number place) = nobody
+choiceOf (gave idled) = nobody
+choiceOf (gave (ranOne i deadline postponed)) = given i deadline
+
+unfoldable pub history : Work → History
+history w t = choiceOf (turn w t)
+
+-- whether a tick postponed server i
+abbrev pub postpones : ℕ → Said Turn → Bool
+postpones i (refused number place) = false
+postpones i (gave idled) = false
+postpones i (gave (ranOne j deadline postponed)) = eqb i j && postponed
+
+-- the postponements of server i before moment t
+unfoldable pub postponedBy : Work → ℕ → ℕ → ℕ
+postponedBy w i t = count t (λ u. postpones i (turn w u))
+
+-- the work of server i that waits at moment t, "looked at before the arrivals" of t
+unfoldable pub waitingAt : Work → ℕ → ℕ → ℕ
+waitingAt w i t = serverAt (atMoment w t) i .waiting .ticks

@@ -1,0 +1,52 @@
+-- `run::run` meets its promise: the verdict is the judgement, and each of its two cases has its outcome.
+use borrow.Author.Needs.{needs}
+use mathlib.Core.Path.{refl, sym, _∙_, ap}
+use Rattle.refusal.specs.Refusals.{onPaper}
+use Rattle.run.specs.OutcomeLaws.{made, outcome-accepted, outcome-refused}
+use Rattle.run.proofs.run.Statement.{statement}
+use Rattle.run.proofs.run.Tie as tie
+
+judge-requires : tie.Need-judge-requires
+judge-requires c κs = search needs
+
+enum-told : tie.Need-enum-told
+enum-told c = search needs
+
+play-requires : tie.Need-play-requires
+play-requires c κs = sym (c .before .before .before .before .judge .ensures) ∙ ap onPaper (c .before .before .enum-told .given .1)
+
+enum-known-verdict : tie.Need-enum-known-verdict
+enum-known-verdict c = search needs
+
+blank-records-requires : tie.Need-blank-records-requires
+blank-records-requires c κs = search needs
+
+same-length : tie.Need-same-length
+same-length c = search needs
+
+same-length-2 : tie.Need-same-length-2
+same-length-2 c = search needs
+
+returns : tie.Need-returns
+returns c =
+    c .before .before .before .before .play .ensures
+    ∙ sym (outcome-accepted _ _ _ (sym (c .before .before .before .before .before .before .before .before .before .judge .ensures) ∙ ap onPaper (c .before .before .before .before .before .before .before .enum-told .given .1)))
+
+returns-2 : tie.Need-returns-2
+returns-2 c =
+    made _ refl (c .blank-records .ensures) refl refl
+    ∙ sym (outcome-refused _ _ _ (sym (c .before .before .before .before .judge .ensures) ∙ ap onPaper (c .before .before .verdict .given .1)))
+
+pub run-spec : {M : Type 1} → statement M
+run-spec =
+    tie.close
+    (tie.spec
+    judge-requires
+    enum-told
+    play-requires
+    enum-known-verdict
+    blank-records-requires
+    same-length
+    same-length-2
+    returns
+    returns-2)

@@ -1,0 +1,28 @@
+-- An outcome is told by its parts, and is that of the file's judgement.
+use Prim.Native.Nat.{ℕ}
+use lib.ListN.{length}
+use mathlib.Core.List.{List}
+use mathlib.Core.Path.{_≡_, _∙_, ap, ap₂}
+use Rattle.refusal.specs.Refusals.{Said, refused, accepted}
+use Rattle.summary.specs.declared.Summary.{Summary}
+use Rattle.workfile.specs.Judgement.{judged}
+use Rattle.workfile.specs.Work.{work}
+use Rattle.run.specs.Outcome.{Outcome, accepting, refusing, outcomeOf, outcome}
+
+-- equal parts make equal outcomes
+pub made : (v : Said (Unit {0})) {n m : ℕ} {s r : List Summary} {l k : List ℕ} {e f : List ℕ} → n ≡ m → s ≡ r → l ≡ k → e ≡ f
+    → _≡_ {A = Outcome} (record { verdict = v; segments = n; summaries = s; trace = l; finishes = e })
+    (record { verdict = v; segments = m; summaries = r; trace = k; finishes = f })
+made v {m = m} {r = r} {l = l} {e = e} p q t u =
+    ap₂ (λ (n : ℕ) (s : List Summary). record { verdict = v; segments = n; summaries = s; trace = l; finishes = e }) p q
+    ∙ ap₂ (λ (l e : List ℕ). record { verdict = v; segments = m; summaries = r; trace = l; finishes = e }) t u
+
+module _ (file list ends : List ℕ) where
+  pub outcome-accepted : judged file (length ends) ≡ accepted → outcome file list ends ≡ accepting (work file) list ends
+  unfolding outcome
+  outcome-accepted e = ap (λ (s : Said (Unit {0})). outcomeOf s (work file) list ends) e
+
+  pub outcome-refused : {number place : ℕ} → judged file (length ends) ≡ refused number place
+      → outcome file list ends ≡ refusing number place list ends
+  unfolding outcome
+  outcome-refused e = ap (λ (s : Said (Unit {0})). outcomeOf s (work file) list ends) e

@@ -1,0 +1,131 @@
+// Whole budgets in one go: a server that has just been postponed and still wins goes on with the next budget.
+ghost use mathlib.Core.Path.{_≡_};
+ghost use Prim.Native.Nat.{_+_, _*_, _≤_, _<_};
+ghost use lib.Dec.{eqb};
+ghost use mathlib.Core.Bool.{cond};
+ghost use Rattle.books.specs.Budgets.{budgetsOn, currentOn, traceOn, interruptedOn, Further, Able, NoneAbove};
+ghost use Rattle.books.specs.BudgetLaws.{RisesBelow};
+ghost use Rattle.books.specs.Winners.{Winners};
+ghost use Rattle.clock.specs.Clock.{lastTick};
+ghost use Rattle.sizes.specs.Sizes.{clockEnd};
+use crate::stretches;
+use crate::tree;
+use books::Current;
+use clock::Length;
+use server::Server;
+
+// For how many whole budgets server i goes on: none where its budget is not full, else as many as there is time and work to spare,
+// and as no other server wins before.
+pub(crate) fn further(keys: &[u64; 128], i: usize, s: Server, spare: u64) -> u64
+    requires { ⌜ i < 64 ⌝ }
+    requires { ⌜ Winners (now keys) ⌝ }
+    requires { ⌜ Able s ⌝ }
+    ensures { λ r. ⌜ Further (now (keys .entry)) i s spare r ⌝ }
+{
+    let budget = s.budget.ticks;
+    let period = s.period.ticks;
+    let own = s.deadline.tick * 64 + i as u64;
+    if s.remaining.ticks < budget {
+        return 0;
+    }
+    if spare <= budget {
+        return 0;
+    }
+    let rival = tree::rival(keys, i);
+    if rival <= own {
+        return 0;
+    }
+    let wins = rises(own, 64 * period, rival);
+    let fits = fits_in(budget, spare);
+    if wins < fits {
+        return wins;
+    }
+    fits
+}
+
+// How many of the numbers that rise from `from` on by `step` are below a bound.
+fn rises(from: u64, step: u64, bound: u64) -> u64
+    requires { ⌜ 1 ≤ step ⌝ }
+    requires { ⌜ from < bound ⌝ }
+    ensures { λ r. ⌜ RisesBelow from step bound r ⌝ }
+{
+    (bound - from - 1) / step + 1
+}
+
+// How many budgets together are less than what there is to spare.
+fn fits_in(budget: u64, spare: u64) -> u64
+    requires { ⌜ 1 ≤ budget ⌝ }
+    requires { ⌜ 1 ≤ spare ⌝ }
+    ensures { λ r. ⌜ r * budget < spare ⌝ }
+{
+    (spare - 1) / budget
+}
+
+// The server after n whole budgets.
+pub(crate) fn budgets_on(s: Server, n: u64) -> Server
+    requires { ⌜ Able s ⌝ }
+    requires { ⌜ n ≤ clockEnd ⌝ }
+    requires { ⌜ n * s .budget .ticks ≤ s .waiting .ticks ⌝ }
+    ensures { λ r. ⌜ r ≡ budgetsOn s n ⌝ }
+{
+    let waiting = Length {
+        ticks: s.waiting.ticks - n * s.budget.ticks,
+    };
+    let deadline = clock::later(
+        s.deadline,
+        Length {
+            ticks: n * s.period.ticks,
+        },
+    );
+    let mut next = s;
+    next.waiting = waiting;
+    next.deadline = deadline;
+    next
+}
+
+// The stretches of n whole budgets of server i from t on, one after the other.
+pub(crate) fn pass(
+    list: &mut [u64],
+    interrupted: &mut [u64; sizes::MOST_SERVERS],
+    c: Current,
+    t: u64,
+    i: usize,
+    s: Server,
+    n: u64,
+) -> Current
+    requires { ⌜ Able s ⌝ }
+    requires { ⌜ t + n * s .budget .ticks ≤ clockEnd ⌝ }
+    requires { ⌜ n * s .budget .ticks ≤ s .waiting .ticks ⌝ }
+    requires { ⌜ c .start .tick ≤ t ⌝ }
+    requires { ⌜ c .count ≤ clockEnd ⌝ }
+    requires { ⌜ NoneAbove clockEnd (now interrupted) ⌝ }
+    ensures { λ r. ⌜ r ≡ currentOn c t i s n ⌝ }
+    ensures { λ r. ⌜ now (list .exit) ≡ traceOn c t i s n (now (list .entry)) ⌝ }
+    ensures { λ r. ⌜ now (interrupted .exit) ≡ interruptedOn c t i s n (now (interrupted .entry)) ⌝ }
+{
+    let budget = s.budget.ticks;
+    let mut current = c;
+    let mut at = t;
+    let mut deadline = s.deadline;
+    let mut waiting = s.waiting.ticks;
+    let mut k = 0;
+    while k < n {
+        current = stretches::turn_to(list, interrupted, current, at, i, deadline);
+        waiting -= budget;
+        current.waits = waiting;
+        at += budget;
+        deadline = clock::later(deadline, s.period);
+        k += 1;
+    }
+    current
+}
+
+// One where the budget is spent.
+pub(crate) fn spent(k: u64, remaining: u64) -> u64
+    ensures { λ r. ⌜ r ≡ cond (eqb k remaining) 1 0 ⌝ }
+{
+    if k == remaining {
+        return 1;
+    }
+    0
+}

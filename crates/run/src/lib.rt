@@ -1,0 +1,65 @@
+// The run of a work file: bytes in, and out come the refusal, or the whole trace, every finish and 64 summaries.
+// The rules know a run tick by tick. This one goes from event to event, a server that runs going on until it is done, postponed, or
+// something arrives, and is proved to give what the rules give.
+mod budgets;
+mod ending;
+mod jobs;
+mod reading;
+mod serving;
+mod spell;
+mod starting;
+mod stretches;
+mod taking;
+mod travel;
+mod tree;
+
+ghost use mathlib.Core.Path.{_≡_};
+ghost use lib.ListN.{length};
+ghost use Rattle.refusal.specs.Refusals.{accepted};
+ghost use Rattle.run.specs.Outcome.{accepting, outcome, says};
+ghost use Rattle.workfile.specs.Judgement.{judged};
+ghost use Rattle.workfile.specs.Work.{work};
+use refusal::Verdict;
+use summary::Summary;
+
+pub struct Ran {
+    pub verdict: Verdict,
+    // How many segments the whole trace has.
+    pub segments: usize,
+    pub summaries: [Summary; sizes::MOST_SERVERS],
+}
+
+// The run of a work file. The trace list gets the first segments, four numbers each, as many whole ones as fit, and the finish list
+// the finish of each arrival; a refusal touches neither.
+pub fn run(file: &[u8], list: &mut [u64], finishes: &mut [u32]) -> Ran
+    ensures { λ r. ⌜ says r (now (list .exit)) (now (finishes .exit)) ≡ outcome (now (file .entry)) (now (list .entry)) (now (finishes .entry)) ⌝ }
+{
+    let verdict = workfile::judge(file, finishes.len());
+    match verdict {
+        Verdict::Accepted => play(file, list, finishes),
+        Verdict::Refused(why) => Ran {
+            verdict: Verdict::Refused(why),
+            segments: 0,
+            summaries: summary::blank_records(),
+        },
+    }
+}
+
+// The run of an accepted file.
+fn play(file: &[u8], list: &mut [u64], finishes: &mut [u32]) -> Ran
+    requires { ⌜ judged (now file) (length (now finishes)) ≡ accepted ⌝ }
+    ensures { λ r. ⌜ says r (now (list .exit)) (now (finishes .exit)) ≡ accepting (work (now (file .entry))) (now (list .entry)) (now (finishes .entry)) ⌝ }
+{
+    let h = workfile::header_of(file);
+    let went = travel::travel(file, list, finishes);
+    let arrived = ending::count_arrivals(file);
+    let records = went.records;
+    let postponed = went.postponed;
+    let interrupted = went.interrupted;
+    let summaries = ending::fill(records, h.servers.count, &arrived, &postponed, &interrupted);
+    Ran {
+        verdict: Verdict::Accepted,
+        segments: went.segments,
+        summaries,
+    }
+}

@@ -1,0 +1,90 @@
+// One spell of the server that is picked: how many ticks of its job it runs at once, and for how many whole budgets it then goes on.
+ghost use mathlib.Core.Path.{_≡_};
+ghost use Prim.Native.Nat.{_+_, _*_, _≤_, _<_};
+ghost use Rattle.books.specs.Budgets.{Able, NoneAbove, currentOn, interruptedOn, traceOn};
+ghost use Rattle.books.specs.Planned.{Planned};
+ghost use Rattle.books.specs.Segmented.{withWaits};
+ghost use Rattle.books.specs.Stretches.{currentThen, interruptedThen, traceThen};
+ghost use Rattle.books.specs.Winners.{Winners};
+ghost use Rattle.sizes.specs.Sizes.{clockEnd, mostFrame};
+use crate::budgets;
+use crate::serving;
+use crate::stretches;
+use books::Current;
+use clock::Moment;
+use server::Server;
+
+pub struct Spell {
+    pub ticks: u64,
+    // The server after these ticks.
+    pub after: Server,
+    pub budgets: u64,
+    // And after the budgets, with its key.
+    pub last: Server,
+    pub key: u64,
+    // How long it takes in all, and how often the server is postponed.
+    pub gone: u64,
+    pub postponed: u64,
+}
+
+// With `rest` of its job left, and `room` ticks to the next arrival or the horizon.
+pub(crate) fn plan(keys: &[u64; 128], i: usize, s: Server, rest: u64, room: u64) -> Spell
+    requires { ⌜ i < 64 ⌝ }
+    requires { ⌜ Winners (now keys) ⌝ }
+    requires { ⌜ Able s ⌝ }
+    requires { ⌜ s .deadline .tick ≤ mostFrame * clockEnd ⌝ }
+    requires { ⌜ 0 < rest ⌝ }
+    requires { ⌜ rest ≤ s .waiting .ticks ⌝ }
+    requires { ⌜ 0 < s .remaining .ticks ⌝ }
+    requires { ⌜ 0 < room ⌝ }
+    requires { ⌜ room ≤ clockEnd ⌝ }
+    ensures { λ r. ⌜ Planned (now (keys .entry)) i s rest room (r .ticks) (r .after) (r .budgets) (r .last) (r .key) (r .gone) (r .postponed) ⌝ }
+{
+    let remaining = s.remaining.ticks;
+    let budget = s.budget.ticks;
+    let ticks = serving::least(remaining, rest, room);
+    let after = serving::serve(s, ticks);
+    let spare = serving::least(rest - ticks, room - ticks, rest);
+    let budgets = budgets::further(keys, i, after, spare);
+    let last = budgets::budgets_on(after, budgets);
+    let key = serving::key_of(last, i);
+    let spent = budgets::spent(ticks, remaining);
+    Spell {
+        ticks,
+        after,
+        budgets,
+        last,
+        key,
+        gone: ticks + budgets * budget,
+        postponed: spent + budgets,
+    }
+}
+
+// The stretches of a spell of server i from t on, and the one that the run is in then.
+pub(crate) fn pass_through(
+    list: &mut [u64],
+    interrupted: &mut [u64; sizes::MOST_SERVERS],
+    c: Current,
+    t: u64,
+    i: usize,
+    deadline: Moment,
+    p: Spell,
+) -> Current
+    requires { ⌜ Able (p .after) ⌝ }
+    requires { ⌜ t + p .ticks + p .budgets * p .after .budget .ticks ≤ clockEnd ⌝ }
+    requires { ⌜ p .budgets * p .after .budget .ticks ≤ p .after .waiting .ticks ⌝ }
+    requires { ⌜ c .start .tick ≤ t ⌝ }
+    requires { ⌜ c .count < clockEnd ⌝ }
+    requires { ⌜ NoneAbove t (now interrupted) ⌝ }
+    requires { ⌜ t < clockEnd ⌝ }
+    ensures { λ r. ⌜ r ≡ currentOn (withWaits (currentThen c t i deadline) (p .after .waiting .ticks)) (t + p .ticks) i (p .after) (p .budgets) ⌝ }
+    ensures { λ r. ⌜ now (list .exit) ≡ traceOn (withWaits (currentThen c t i deadline) (p .after .waiting .ticks)) (t + p .ticks) i (p .after) (p .budgets) (traceThen c t i deadline (now (list .entry))) ⌝ }
+    ensures { λ r. ⌜ now (interrupted .exit) ≡ interruptedOn (withWaits (currentThen c t i deadline) (p .after .waiting .ticks)) (t + p .ticks) i (p .after) (p .budgets) (interruptedThen c i deadline (now (interrupted .entry))) ⌝ }
+{
+    let ticks = p.ticks;
+    let budgets = p.budgets;
+    let after = p.after;
+    let mut current = stretches::turn_to(list, interrupted, c, t, i, deadline);
+    current.waits = after.waiting.ticks;
+    budgets::pass(list, interrupted, current, t + ticks, i, after, budgets)
+}

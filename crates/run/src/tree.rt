@@ -1,0 +1,58 @@
+// A winner tree over the keys of 64 servers: the keys stand at places 64 to 127, each place p from 1 to 63 holds the lesser of those
+// at 2p and 2p + 1, and place 0 is unused. So place 1 holds the least key, and a changed key changes only what stands above it.
+ghost use Prim.Native.Nat.{_<_, min};
+ghost use mathlib.Core.Path.{_≡_};
+ghost use Rattle.books.specs.Winners.{Winners, Beside, Set, Rival};
+
+// Sets the key of server i. Where a place above it already holds its lesser, nothing further up changes.
+pub(crate) fn set_key(tree: &mut [u64; 128], i: usize, key: u64)
+    requires { ⌜ i < 64 ⌝ }
+    requires { ⌜ Winners (now tree) ⌝ }
+    ensures { λ _. ⌜ Set (now (tree .entry)) (now (tree .exit)) i key ⌝ }
+{
+    let mut at = 64 + i;
+    let mut least = key;
+    tree[at] = key;
+    while at > 1 {
+        let up = at / 2;
+        least = lesser(least, tree[sibling(at)]);
+        if tree[up] == least {
+            return;
+        }
+        tree[up] = least;
+        at = up;
+    }
+}
+
+// The least key of the other 63: what the root would hold if server i had the key of the server beside it.
+pub(crate) fn rival(tree: &[u64; 128], i: usize) -> u64
+    requires { ⌜ i < 64 ⌝ }
+    requires { ⌜ Winners (now tree) ⌝ }
+    ensures { λ r. ⌜ Rival (now (tree .entry)) i r ⌝ }
+{
+    let leaf = 64 + i;
+    let mut least = tree[sibling(leaf)];
+    let mut at = leaf / 2;
+    while at > 1 {
+        least = lesser(least, tree[sibling(at)]);
+        at = at / 2;
+    }
+    least
+}
+
+// The other place under the place above `at`.
+fn sibling(at: usize) -> usize
+    requires { ⌜ at < 128 ⌝ }
+    ensures { λ r. ⌜ Beside at r ⌝ }
+{
+    4 * (at / 2) + 1 - at
+}
+
+fn lesser(a: u64, b: u64) -> u64
+    ensures { λ r. ⌜ r ≡ min a b ⌝ }
+{
+    if a < b {
+        return a;
+    }
+    b
+}

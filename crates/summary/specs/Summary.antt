@@ -1,0 +1,94 @@
+-- The summary of a run (document 01, "One moment of the clock"): "an array of 64 records handed back whole, one per server, blank from n
+-- on: arrived, finished, postponed, interrupted, and the response."
+use Prim.Native.Nat.{ℕ, _+_, _-_}
+use lib.Dec.{eqb, ltb}
+use mathlib.Core.Bool.{Bool, true, false, cond, _&&_}
+use mathlib.Core.List.{List, [], _∷_}
+use Rattle.clock.specs.Clock.{ticks}
+use Rattle.counting.specs.Count.{count}
+use Rattle.counting.specs.Most.{most}
+use Rattle.counting.specs.Places.{places}
+use Rattle.counting.specs.Sum.{sum}
+use Rattle.finish.specs.Finish.{Finish, isOpen, at, finish}
+use Rattle.moments.specs.Moments.{history, postponedBy, waitingAt}
+use Rattle.sizes.specs.Sizes.{mostServers}
+use Rattle.trace.specs.declared.Segment.{Segment}
+use Rattle.trace.specs.Trace.{trace}
+use Rattle.workfile.specs.Work.{Work}
+use Rattle.summary.specs.declared.Response.{Response}
+use Rattle.summary.specs.declared.Response.the-variants.{Absent, Over}
+use Rattle.summary.specs.declared.Summary.{Summary}
+
+-- "A blank record has every count 0 and the response absent."
+abbrev pub blank : Summary
+blank = record { arrived = 0; finished = 0; postponed = 0; interrupted = 0; response = Absent }
+
+-- whether a job has finished
+unfoldable pub hasFinished : Finish → Bool
+hasFinished isOpen = false
+hasFinished (at t) = true
+
+-- when it did
+unfoldable pub endOf : Finish → ℕ
+endOf isOpen = 0
+endOf (at t) = t
+
+-- Of a work and the finish of each of its jobs, server i:
+module _ (w : Work) (f : ℕ → Finish) (i : ℕ) where
+  -- whether arrival k is a job of it, and one that has finished
+  abbrev pub isJob : ℕ → Bool
+  isJob k = eqb (w .arrival k .server) i
+
+  abbrev pub isDone : ℕ → Bool
+  isDone k = isJob k && hasFinished (f k)
+
+  unfoldable pub arrivedOf : ℕ
+  arrivedOf = count (w .arrivals) isJob
+
+  unfoldable pub finishedOf : ℕ
+  finishedOf = count (w .arrivals) isDone
+
+  -- "A job's response is finish minus arrival moment"; here, that of a job of it that has finished
+  abbrev pub responseOf : ℕ → ℕ
+  responseOf k = cond (isDone k) (endOf (f k) - w .arrival k .moment .tick) 0
+
+  -- "either absent, when nothing finished, or a total and a longest over finished jobs alone"
+  unfoldable pub responses : Response
+  responses =
+      cond (eqb finishedOf 0) Absent (Over (ticks (sum (w .arrivals) responseOf)) (ticks (most (w .arrivals) responseOf)))
+
+-- how many segments of a trace pass a test
+unfoldable pub howMany : (Segment → Bool) → List Segment → ℕ
+howMany p [] = 0
+howMany p (s ∷ more) = cond (p s) 1 0 + howMany p more
+
+-- the moment at which a segment ends
+abbrev pub ending : Segment → ℕ
+ending s = s .start .tick + s .length .ticks
+
+-- a segment of server i that ends "with work of their server still waiting, looked at before the arrivals of the ending moment"
+abbrev pub leavesWork : Work → ℕ → Segment → Bool
+leavesWork w i s = eqb (s .server) i && ltb 0 (waitingAt w i (ending s))
+
+-- "Interrupted counts the segments that end before N" so
+unfoldable pub interruptedOf : Work → ℕ → ℕ
+interruptedOf w i =
+    howMany (λ s. ltb (ending s) (w .horizon .tick) && leavesWork w i s) (trace (history w) (w .horizon .tick))
+
+-- the finishes of a work's run to its horizon
+abbrev pub finishes : Work → ℕ → Finish
+finishes w k = finish w (history w) (w .horizon .tick) k
+
+unfoldable pub summaryOf : Work → ℕ → Summary
+summaryOf w i =
+    record {
+      arrived = arrivedOf w (finishes w) i;
+      finished = finishedOf w (finishes w) i;
+      postponed = postponedBy w i (w .horizon .tick);
+      interrupted = interruptedOf w i;
+      response = responses w (finishes w) i;
+    }
+
+-- all 64
+unfoldable pub summaries : Work → List Summary
+summaries w = places mostServers (λ i. cond (ltb i (w .table .count)) (summaryOf w i) blank)

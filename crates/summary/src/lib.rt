@@ -1,0 +1,48 @@
+// The summary of a run: a record for each server, and the response, which is absent where nothing has finished.
+ghost use mathlib.Core.Path.{_≡_};
+ghost use lib.ListN.{replicate, set};
+ghost use Rattle.sizes.specs.Sizes.{mostServers};
+ghost use Rattle.summary.specs.Summary.{blank};
+use clock::Length;
+
+// How long the jobs of a server took that have finished. A mean is the total over their count.
+pub enum Response {
+    Absent,
+    Over { total: Length, longest: Length },
+}
+
+pub struct Summary {
+    pub arrived: u64,
+    pub finished: u64,
+    pub postponed: u64,
+    pub interrupted: u64,
+    pub response: Response,
+}
+
+// 64 blank records.
+pub fn blank_records() -> [Summary; sizes::MOST_SERVERS]
+    ensures { λ r. ⌜ r ≡ replicate mostServers blank ⌝ }
+{
+    [Summary {
+        arrived: 0,
+        finished: 0,
+        postponed: 0,
+        interrupted: 0,
+        response: Response::Absent,
+    }; sizes::MOST_SERVERS]
+}
+
+// The records with another one at place i; there is none to change where i is no place.
+pub fn with_record(
+    records: [Summary; sizes::MOST_SERVERS],
+    i: usize,
+    s: Summary,
+) -> [Summary; sizes::MOST_SERVERS]
+    ensures { λ r. ⌜ r ≡ set records i s ⌝ }
+{
+    let mut changed = records;
+    if i < sizes::MOST_SERVERS {
+        changed[i] = s;
+    }
+    changed
+}

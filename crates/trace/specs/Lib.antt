@@ -1,0 +1,4 @@
+pub mod Trace
+pub mod TraceLaws
+pub mod Written
+pub mod WrittenLaws

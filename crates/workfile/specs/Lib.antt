@@ -1,0 +1,8 @@
+pub mod Fit
+pub mod Judgement
+pub mod JudgementLaws
+pub mod Layout
+pub mod LayoutLaws
+pub mod PassedLaws
+pub mod Work
+pub mod WorkLaws

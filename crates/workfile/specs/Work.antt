@@ -1,0 +1,36 @@
+-- What a work file holds: a frame, a horizon, a table of servers and a list of arrivals. "Servers are numbered from 0 in file order,
+-- arrivals too." (document 01, "The work file")
+use Prim.Native.Nat.{ℕ, _+_, _*_}
+use mathlib.Core.List.{List}
+use Rattle.arrival.specs.declared.Arrival.{Arrival}
+use Rattle.booking.specs.Admission.{Table}
+use Rattle.clock.specs.declared.Length.{Length}
+use Rattle.clock.specs.declared.Moment.{Moment}
+use Rattle.sizes.specs.Sizes.{serverBytes, arrivalBytes}
+use Rattle.workfile.specs.Layout.{header, bookingAt, arrivalAt}
+
+pub record Work : Type 0 where
+  -- H
+  pub frame : Length
+  -- N
+  pub horizon : Moment
+  -- n servers
+  pub table : Table
+  -- m, and each arrival
+  pub arrivals : ℕ
+  pub arrival : ℕ → Arrival
+
+-- the work of a file: the records stand one behind the other from their offsets on
+unfoldable pub work : List ℕ → Work
+work file =
+    record {
+      frame = header file .frame;
+      horizon = header file .horizon;
+      table =
+          record {
+            count = header file .servers .count;
+            booking = λ k. bookingAt file (header file .servers .offset + serverBytes * k);
+          };
+      arrivals = header file .arrivals .count;
+      arrival = λ k. arrivalAt file (header file .arrivals .offset + arrivalBytes * k);
+    }
