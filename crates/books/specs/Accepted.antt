@@ -1,5 +1,5 @@
 -- What the functions of a run may rely on: the file was accepted.
-use Prim.Native.Nat.{ℕ, suc, _+_, _*_, _≤_, _<_}
+use Prim.Native.Nat.{ℕ, _+_, _*_, _≤_, _<_}
 use borrow.Author.Tests.{lt-ltb, le-ltb}
 use lib.Dec.{ltb}
 use lib.ListN.{length}
@@ -12,7 +12,7 @@ use Rattle.finish.specs.Finish.{workOf}
 use Rattle.refusal.specs.Refusals.{accepted}
 use Rattle.sizes.specs.Sizes.{arrivalBytes, serverBytes}
 use Rattle.workfile.specs.declared.Header.{Header}
-use Rattle.workfile.specs.Fit.{Fit, judged-fit, judged-placed, in-order-all}
+use Rattle.workfile.specs.Fit.{Fit, judged-fit, judged-placed}
 use Rattle.workfile.specs.Judgement.{judged}
 use Rattle.workfile.specs.JudgementLaws.{Placed}
 use Rattle.workfile.specs.Layout.{arrivalAt, bookingAt, header}

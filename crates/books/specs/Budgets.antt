@@ -1,20 +1,19 @@
 -- Whole budgets in one go: a server that has just been postponed and still wins goes on with the next budget.
 use Prim.Native.Nat.{ℕ, zero, suc, _+_, _-_, _*_, _≤_, _<_}
 use borrow.Author.Tests.{ne-eqb}
-use lib.ListN.{length, getD, set, length-set}
+use lib.ListN.{length, getD, set}
 use mathlib.Core.Bool.{false}
 use lib.Seq.{getD-set-same, getD-set-other, set-getD, set-set}
 use mathlib.Core.List.{List}
 use mathlib.Core.Path.{_≡_, refl, sym, _∙_, ap, ap₂, subst, subst⁻¹, subst₂}
 use native.Mathlib.Decide.{ℕ-discrete}
-use native.Mathlib.Nat.{add-zero, mul-le-mul-right, sub-zero}
+use native.Mathlib.Nat.{add-zero}
 use native.Mathlib.Omega.{arith}
 use Rattle.clock.specs.Clock.{later, moment, ticks}
-use Rattle.clock.specs.declared.Moment.{Moment}
 use Rattle.dispatcher.specs.declared.Dispatcher.{Dispatcher}
 use Rattle.dispatcher.specs.Pick.{serverAt}
 use Rattle.dispatcher.specs.PickLaws.{Earliest}
-use Rattle.moments.specs.OneGo.{lessBy, servedFor, ranFor}
+use Rattle.moments.specs.OneGo.{servedFor, ranFor}
 use Rattle.moments.specs.OneGoLaws.{served-spent}
 use Rattle.server.specs.declared.Server.{Server}
 use Rattle.server.specs.Moves.{postponed}

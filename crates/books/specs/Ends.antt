@@ -4,12 +4,11 @@ use borrow.Author.Tests.{leb-true, lt-ltb, le-ltb, eq-eqb, ne-eqb}
 use lib.Dec.{eqb, leb, ltb}
 use lib.ListN.{length, getD, replicate, set, length-set, length-replicate, getD-replicate}
 use lib.Seq.{getD-set-same, getD-set-other}
-use mathlib.Core.Bool.{Bool, true, false, cond, _&&_}
+use mathlib.Core.Bool.{Bool, true, false, cond}
 use mathlib.Core.List.{List}
 use mathlib.Core.Path.{_≡_, refl, sym, _∙_, ap, ap₂}
 use native.Mathlib.Decide.{decLt, ℕ-discrete}
 use native.Mathlib.Omega.{arith}
-use Rattle.clock.specs.Clock.{ticks}
 use Rattle.counting.specs.Count.{count, count-empty, count-hit, count-miss, count-le}
 use Rattle.counting.specs.Places.{places, length-places, getD-places, places-getD, places-same, places-replicate, set-places}
 use Rattle.counting.specs.Tests.{and-false}
@@ -19,13 +18,12 @@ use Rattle.history.specs.ChoiceLaws.{served-start}
 use Rattle.moments.specs.Moments.{history}
 use Rattle.sizes.specs.Sizes.{mostServers, openJob}
 use Rattle.summary.specs.declared.Response.{Response}
-use Rattle.summary.specs.declared.Response.the-variants.{Absent}
 use Rattle.summary.specs.declared.Summary.{Summary}
 use Rattle.summary.specs.Summary.{blank, hasFinished, endOf, isJob, isDone, finishedOf, responses}
 use Rattle.summary.specs.SummaryLaws.{withJob, finished-same, responses-same, finished-none, responses-none, finished-more, responses-more, finished-alike, responses-alike}
 use Rattle.workfile.specs.Fit.{Fit}
 use Rattle.workfile.specs.Work.{Work}
-use Rattle.books.specs.Jobs.{work-own, work-none, work-to}
+use Rattle.books.specs.Jobs.{work-own}
 
 -- The finish list.
 module _ (m : ℕ) (list : List ℕ) where

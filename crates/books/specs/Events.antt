@@ -1,22 +1,21 @@
 -- From one event to the next: server i, which the rules pick, for k + 1 ticks, or k + 1 idle ones, while no arrival comes.
 use Prim.Native.Nat.{ℕ, suc, _+_, _-_, _≤_, _<_}
 use lib.Dec.{eqb}
-use lib.ListN.{length, getD, set}
 use lib.Seq.{getD-set-same, getD-set-other}
-use mathlib.Core.Path.{_≡_, refl, sym, _∙_, ap, subst, subst⁻¹}
+use mathlib.Core.Path.{_≡_, sym, _∙_, ap, subst, subst⁻¹}
 use native.Mathlib.Decide.{decLt, ℕ-discrete}
 use native.Mathlib.Omega.{arith}
 use Rattle.clock.specs.Clock.{moment}
 use Rattle.clock.specs.declared.Moment.{Moment}
 use Rattle.dispatcher.specs.declared.Dispatcher.{Dispatcher}
-use Rattle.dispatcher.specs.Moves.{Turn, idled, ranOne}
+use Rattle.dispatcher.specs.Moves.{idled, ranOne}
 use Rattle.dispatcher.specs.Pick.{serverAt}
 use Rattle.dispatcher.specs.PickLaws.{Earliest, NoneWorks}
 use Rattle.dispatcher.specs.Within.{Within}
 use Rattle.finish.specs.Finish.{workOf}
 use Rattle.history.specs.Choice.{nobody, given, served}
 use Rattle.history.specs.ChoiceLaws.{served-own, served-other, for-nobody, for-other}
-use Rattle.moments.specs.Moments.{taken, atMoment, ready, turn, history}
+use Rattle.moments.specs.Moments.{atMoment, ready, turn, history}
 use Rattle.moments.specs.OneGo.{laterBy, ranFor, servedFor}
 use Rattle.moments.specs.OneGoLaws.{Quiet, taken-none, at-ran, turn-ran, at-idle, turn-idle, served-waiting}
 use Rattle.moments.specs.Postponed.{history-ran, history-idle}

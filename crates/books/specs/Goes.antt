@@ -1,25 +1,20 @@
 -- All the books of a run at moment t, and how they go on by one event.
-use Prim.Native.Nat.{ℕ, suc, _+_, _-_, _*_, _≤_, _<_}
-use borrow.Author.Tests.{lt-ltb}
-use lib.Dec.{eqb}
+use Prim.Native.Nat.{ℕ, suc, _+_, _-_, _≤_, _<_}
 use lib.ListN.{length, getD, set, length-set, replicate, length-replicate, getD-replicate}
 use lib.Seq.{getD-set-same, getD-set-other}
-use mathlib.Core.Bool.{cond}
 use mathlib.Core.List.{List}
 use mathlib.Core.Path.{_≡_, refl, sym, _∙_, ap, ap₂, subst, subst⁻¹, subst₂}
 use native.Mathlib.Decide.{ℕ-discrete}
 use native.Mathlib.Omega.{arith}
 use Rattle.clock.specs.Clock.{moment}
-use Rattle.clock.specs.declared.Moment.{Moment}
 use Rattle.dispatcher.specs.declared.Dispatcher.{Dispatcher}
 use Rattle.dispatcher.specs.Pick.{serverAt}
 use Rattle.dispatcher.specs.PickLaws.{Earliest, NoneWorks}
-use Rattle.finish.specs.Finish.{Finish, isOpen, at, finish, finishList, shown, workOf}
-use Rattle.history.specs.Choice.{nobody, given, served}
+use Rattle.finish.specs.Finish.{Finish, isOpen, at, finish, finishList, shown}
+use Rattle.history.specs.Choice.{given, served}
 use Rattle.history.specs.ChoiceLaws.{served-start}
-use Rattle.moments.specs.Moments.{atMoment, history, postponedBy, waitingAt}
-use Rattle.moments.specs.OneGo.{laterBy, ranFor, servedFor}
-use Rattle.moments.specs.OneGoLaws.{served-waiting}
+use Rattle.moments.specs.Moments.{history, postponedBy, waitingAt}
+use Rattle.moments.specs.OneGo.{ranFor, servedFor}
 use Rattle.moments.specs.Postponed.{postponed-not, postponed-other, postponed-own, postponed-idle, postponed-start}
 use Rattle.server.specs.declared.Server.{Server}
 use Rattle.sizes.specs.Sizes.{clockEnd, mostServers}
@@ -29,10 +24,10 @@ use Rattle.workfile.specs.Fit.{Fit}
 use Rattle.workfile.specs.Work.{Work}
 use Rattle.books.specs.declared.Current.{Current}
 use Rattle.books.specs.Ends.{finishes-same, finishes-one, recordsAt, records-start, records-same, records-one, start-open, withOne}
-use Rattle.books.specs.Events.{event-at, event-turns, event-history, event-served, event-unserved, event-other, event-own, event-stands, idle-turns, idle-history, idle-unserved, idle-stands}
+use Rattle.books.specs.Events.{event-at, event-turns, event-history, event-served, event-unserved, event-other, event-own, event-stands, idle-turns, idle-history, idle-unserved}
 use Rattle.books.specs.Jobs.{Job, job-later, job-waits, job-goes-on, job-ends, job-waiting, work-none, idle-ends-none, run-ends-no-other, job-was-open, job-still-open, job-finishes}
-use Rattle.books.specs.Segmented.{Segmented, atRest, segmented-start, segmented-then, withWaits}
-use Rattle.books.specs.Stands.{Stands, stands-start, stands-within}
+use Rattle.books.specs.Segmented.{Segmented, segmented-then, withWaits}
+use Rattle.books.specs.Stands.{Stands, stands-within}
 use Rattle.books.specs.Stretches.{chosen-server, chosen-nobody, traceThen, interruptedThen, currentThen}
 
 -- which job of each server is served, and what is left of it

@@ -1,20 +1,15 @@
 -- Which job of each server is being served, and what is left of it.
 use Prim.Native.Nat.{ℕ, zero, suc, _+_, _-_, _≤_, _<_}
 use borrow.Author.Tests.{eq-eqb, ne-eqb}
-use lib.Dec.{eqb}
-use lib.ListN.{length, getD, set, length-set}
-use lib.Seq.{getD-set-same, getD-set-other}
-use mathlib.Core.Bool.{Bool, true, false}
-use mathlib.Core.List.{List}
 use mathlib.Core.Path.{_≡_, refl, sym, _∙_, ap, subst, subst⁻¹}
 use native.Mathlib.Decide.{decLt, ℕ-discrete}
 use native.Mathlib.Nat.{add-sub-of-le, add-suc, add-zero}
 use native.Mathlib.Omega.{arith}
 use Rattle.clock.specs.declared.Moment.{Moment}
 use Rattle.counting.specs.Sum.{sum}
-use Rattle.finish.specs.Finish.{costFor, workOf, Finish, isOpen, at, servedBy, finish}
+use Rattle.finish.specs.Finish.{costFor, workOf, isOpen, at, servedBy, finish}
 use Rattle.finish.specs.FinishLaws.{finish-open, finish-stays, finish-now, finish-unserved}
-use Rattle.history.specs.Choice.{Choice, nobody, given, isFor, served}
+use Rattle.history.specs.Choice.{nobody, given, served}
 use Rattle.history.specs.ChoiceLaws.{served-own, served-other, for-nobody, for-other}
 use Rattle.moments.specs.Moments.{history}
 use Rattle.workfile.specs.Fit.{Fit}

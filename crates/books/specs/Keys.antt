@@ -1,9 +1,6 @@
 -- A winner tree over the servers of a dispatcher: its root tells the pick.
-use Prim.Native.Nat.{ℕ, _+_, _*_, _/_, _%_, _≤_, _<_}
-use borrow.Author.Tests.{eqb-true, eqb-false}
-use lib.Dec.{eqb}
+use Prim.Native.Nat.{ℕ, _+_, _*_, _%_, _≤_, _<_}
 use lib.ListN.{getD}
-use lib.Seq.{getD-set-same, getD-set-other}
 use mathlib.Core.Bool.{Bool, true, false, cond}
 use mathlib.Core.List.{List}
 use mathlib.Core.Path.{_≡_, refl, sym, _∙_, ap, subst, subst⁻¹}
@@ -12,15 +9,12 @@ use native.Mathlib.Omega.{arith}
 use Rattle.clock.specs.Clock.{lastTick}
 use Rattle.counting.specs.Tests.{not-both}
 use Rattle.dispatcher.specs.declared.Dispatcher.{Dispatcher}
-use Rattle.dispatcher.specs.Moves.{withServer}
 use Rattle.dispatcher.specs.Pick.{serverAt}
 use Rattle.dispatcher.specs.PickLaws.{Earliest, NoneWorks}
 use Rattle.dispatcher.specs.Within.{Within}
 use Rattle.server.specs.declared.Server.{Server}
 use Rattle.server.specs.RangeLaws.{deadline-below}
-use Rattle.server.specs.Ranges.{Ranged}
-use Rattle.server.specs.Server.{blank, idle}
-use Rattle.sizes.specs.Sizes.{clockEnd, mostFrame}
+use Rattle.server.specs.Server.{idle}
 use Rattle.books.specs.Winners.{keyAt, Winners, Set, root-least, root-some}
 
 -- the deadline and then the number of a server with work; the last number for an idle one

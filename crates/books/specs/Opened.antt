@@ -1,5 +1,5 @@
 -- The next job of a server that has served its jobs so far is opened.
-use Prim.Native.Nat.{ℕ, _+_, _<_}
+use Prim.Native.Nat.{ℕ, _<_}
 use lib.ListN.{getD, set}
 use mathlib.Core.List.{List}
 use mathlib.Core.Path.{_≡_}

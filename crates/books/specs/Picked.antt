@@ -1,9 +1,9 @@
 -- What a run may rely on between two events: of the server that is picked, and that no number is too large.
-use Prim.Native.Nat.{ℕ, _+_, _*_, _%_, _≤_, _<_}
+use Prim.Native.Nat.{ℕ, _*_, _%_, _≤_, _<_}
 use borrow.Author.Tests.{eqb-false}
 use lib.ListN.{length, getD}
 use mathlib.Core.List.{List}
-use mathlib.Core.Path.{_≡_, sym, _∙_, ap, subst⁻¹}
+use mathlib.Core.Path.{_≡_, _∙_, ap, subst⁻¹}
 use native.Mathlib.Nat.{mul-le-mul, pos-of-ne-zero}
 use native.Mathlib.Omega.{arith}
 use Rattle.clock.specs.Clock.{lastTick}

@@ -4,16 +4,16 @@ use borrow.Author.Tests.{eqb-true, eq-eqb}
 use lib.Dec.{eqb, ltb}
 use lib.ListN.{length, getD, set, length-set, length-append, replicate, length-replicate, getD-replicate, List·getD-eq-default}
 use mathlib.Core.Bool.{Bool, true, false, cond, _&&_}
-use mathlib.Core.List.{List, [], _∷_, _++_}
+use mathlib.Core.List.{List, [], _∷_}
 use mathlib.Core.Path.{_≡_, refl, sym, _∙_, ap, ap₂, subst, subst⁻¹}
 use native.Mathlib.Decide.{decLt}
 use native.Mathlib.Omega.{arith}
-use Rattle.clock.specs.Clock.{lastTick, moment}
+use Rattle.clock.specs.Clock.{moment}
 use Rattle.clock.specs.declared.Moment.{Moment}
 use Rattle.counting.specs.Tests.{and-left, and-right, and-both, not-both}
 use Rattle.history.specs.Choice.{Choice, nobody, given, History}
 use Rattle.moments.specs.Moments.{history, waitingAt}
-use Rattle.sizes.specs.Sizes.{clockEnd, mostServers}
+use Rattle.sizes.specs.Sizes.{mostServers}
 use Rattle.summary.specs.Summary.{howMany, leavesWork}
 use Rattle.trace.specs.declared.Segment.{Segment}
 use Rattle.trace.specs.Trace.{begins, lasting, segmentsOf, begun, trace}

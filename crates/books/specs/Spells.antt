@@ -1,28 +1,24 @@
 -- A spell as it was planned keeps what holds between two events.
-use Prim.Native.Nat.{ℕ, _+_, _-_, _*_, _%_, _≤_, _<_}
-use lib.Dec.{eqb}
+use Prim.Native.Nat.{ℕ, _+_, _-_, _%_, _≤_, _<_}
 use lib.ListN.{length, getD, set}
-use mathlib.Core.Bool.{cond}
 use mathlib.Core.List.{List}
-use mathlib.Core.Path.{_≡_, refl, sym, _∙_, ap, ap₂, subst, subst⁻¹, subst₂}
+use mathlib.Core.Path.{_≡_, sym, _∙_, ap, ap₂, subst, subst₂}
 use native.Mathlib.Omega.{arith}
 use Rattle.clock.specs.Clock.{lastTick, moment}
 use Rattle.clock.specs.declared.Moment.{Moment}
 use Rattle.dispatcher.specs.declared.Dispatcher.{Dispatcher}
 use Rattle.dispatcher.specs.Pick.{serverAt}
-use Rattle.moments.specs.OneGo.{servedFor}
 use Rattle.server.specs.declared.Server.{Server}
 use Rattle.sizes.specs.Sizes.{mostServers}
 use Rattle.summary.specs.declared.Summary.{Summary}
 use Rattle.summary.specs.Summary as summary
 use Rattle.workfile.specs.Fit.{Fit}
 use Rattle.workfile.specs.Work.{Work}
-use Rattle.books.specs.Budgets.{budgetsOn, currentOn, traceOn, interruptedOn}
+use Rattle.books.specs.Budgets.{currentOn, traceOn, interruptedOn}
 use Rattle.books.specs.declared.Current.{Current}
 use Rattle.books.specs.Ends.{withOne}
 use Rattle.books.specs.Goes.{Ended, Jobs}
-use Rattle.books.specs.Happens.{Happens, gone, dispatcherAfter, travels-ran, travels-ended}
-use Rattle.books.specs.Keys.{keyOf}
+use Rattle.books.specs.Happens.{Happens, dispatcherAfter, travels-ran, travels-ended}
 use Rattle.books.specs.Planned.{Planned}
 use Rattle.books.specs.Segmented.{withWaits}
 use Rattle.books.specs.Stretches.{traceThen, interruptedThen, currentThen}

@@ -1,41 +1,37 @@
 -- The dispatcher of a run that stands at moment t with the first j arrivals taken.
-use Prim.Native.Nat.{ℕ, zero, suc, _+_, _-_, _*_, _≤_, _<_}
-use borrow.Author.Tests.{eq-eqb, ne-eqb, lt-ltb, le-ltb}
-use lib.Dec.{eqb, leb, ltb}
-use lib.ListN.{length, getD, set, List·getD-eq-default}
+use Prim.Native.Nat.{ℕ, suc, _+_, _*_, _≤_, _<_}
+use lib.Dec.{eqb, ltb}
+use lib.ListN.{List·getD-eq-default}
 use lib.Seq.{getD-set-same, getD-set-other}
 use mathlib.Core.Bool.{Bool, true, false, cond}
-use mathlib.Core.Path.{_≡_, refl, sym, _∙_, ap, subst, subst⁻¹}
+use mathlib.Core.Path.{_≡_, refl, sym, _∙_, ap, subst⁻¹}
 use native.Mathlib.Decide.{decLt, ℕ-discrete}
-use native.Mathlib.Nat.{add-zero, mul-le-mul-right, not-suc-le-zero}
+use native.Mathlib.Nat.{mul-le-mul-right, not-suc-le-zero}
 use native.Mathlib.Omega.{arith}
 use Rattle.arrival.specs.Arrival.{faulty}
-use Rattle.arrival.specs.ArrivalLaws.{Sound, not-faulty}
+use Rattle.arrival.specs.ArrivalLaws.{not-faulty}
 use Rattle.clock.specs.Clock.{moment}
 use Rattle.clock.specs.declared.Moment.{Moment}
 use Rattle.counting.specs.Below.{below-suc}
 use Rattle.counting.specs.Places.{places, getD-places, length-places}
-use Rattle.counting.specs.Sum.{sum, sum-le}
+use Rattle.counting.specs.Sum.{sum-le}
 use Rattle.dispatcher.specs.declared.Dispatcher.{Dispatcher}
 use Rattle.dispatcher.specs.MoveLaws.{arrival-whole}
 use Rattle.dispatcher.specs.Moves.{Moved, arrival, withServer}
 use Rattle.dispatcher.specs.Pick.{serverAt}
-use Rattle.dispatcher.specs.PickLaws.{Earliest, NoneWorks}
 use Rattle.dispatcher.specs.Start.{startAt, atStart}
 use Rattle.dispatcher.specs.Within.{Within}
 use Rattle.finish.specs.Finish.{costFor, workOf}
-use Rattle.history.specs.Choice.{nobody, given, served}
-use Rattle.history.specs.ChoiceLaws.{served-start, served-own, served-other, for-nobody, for-other}
+use Rattle.history.specs.Choice.{served}
+use Rattle.history.specs.ChoiceLaws.{served-start}
 use Rattle.moments.specs.Moments.{taken, atMoment, ready, history}
-use Rattle.moments.specs.OneGo.{laterBy, ranFor, servedFor, lessBy}
-use Rattle.moments.specs.OneGoLaws.{Quiet, taken-none}
 use Rattle.moments.specs.Stands.{taken-more, taken-rest, at-keeps, at-within, taken-within, taken-keeps}
 use Rattle.server.specs.declared.Server.{Server}
 use Rattle.server.specs.MoveLaws.{arrived-waiting}
 use Rattle.server.specs.Moves.{arrived}
 use Rattle.server.specs.Server.{blank, fresh}
-use Rattle.sizes.specs.Sizes.{clockEnd, mostArrivals, mostCost, mostServers, mostWaiting}
-use Rattle.workfile.specs.Fit.{Fit, in-order-all}
+use Rattle.sizes.specs.Sizes.{clockEnd, mostCost, mostServers, mostWaiting}
+use Rattle.workfile.specs.Fit.{Fit}
 use Rattle.workfile.specs.Work.{Work}
 use Rattle.books.specs.Jobs.{work-none, work-own, work-other}
 

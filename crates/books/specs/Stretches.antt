@@ -2,18 +2,18 @@
 use Prim.Native.Nat.{ℕ, zero, suc, _+_, _-_, _≤_, _<_}
 use borrow.Author.Tests.{eq-eqb, ne-eqb, lt-ltb, le-ltb}
 use lib.Dec.{eqb, ltb}
-use lib.ListN.{length, getD, set, length-set, length-append}
+use lib.ListN.{length, getD, set, length-append}
 use lib.Seq.{getD-set-same, getD-set-other}
 use mathlib.Core.Bool.{Bool, true, false, not, cond, _&&_}
 use mathlib.Core.List.{List, [], _∷_, _++_, append-nil}
 use mathlib.Core.Path.{_≡_, refl, sym, _∙_, ap, ap₂, subst, subst⁻¹}
 use native.Mathlib.Decide.{decLt, ℕ-discrete}
-use native.Mathlib.Nat.{add-sub-of-le, add-suc, add-zero}
+use native.Mathlib.Nat.{add-sub-of-le, add-zero}
 use native.Mathlib.Omega.{arith}
 use Rattle.clock.specs.Clock.{moment, ticks}
 use Rattle.clock.specs.declared.Moment.{Moment}
 use Rattle.counting.specs.First.{first-le}
-use Rattle.counting.specs.Tests.{and-false, not-both}
+use Rattle.counting.specs.Tests.{and-false}
 use Rattle.history.specs.Choice.{Choice, nobody, given, History, same}
 use Rattle.history.specs.ChoiceLaws.{same-differ}
 use Rattle.moments.specs.Moments.{history, waitingAt}

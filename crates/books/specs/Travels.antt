@@ -1,16 +1,16 @@
 -- A run from event to event: what holds between two events, and that an event keeps it.
-use Prim.Native.Nat.{ℕ, zero, suc, _+_, _-_, _*_, _%_, _≤_, _<_, min}
-use borrow.Author.Tests.{eqb-true, eqb-false, eq-eqb, ne-eqb}
+use Prim.Native.Nat.{ℕ, zero, suc, _+_, _-_, _*_, _%_, _≤_, _<_}
+use borrow.Author.Tests.{eqb-true, eqb-false, eq-eqb}
 use lib.Dec.{eqb}
-use lib.ListN.{length, getD, set, length-set, replicate, getD-replicate}
+use lib.ListN.{length, getD, set, replicate, getD-replicate}
 use lib.Seq.{getD-set-same, getD-set-other, set-getD, set-set}
 use mathlib.Core.Bool.{Bool, true, false, cond}
 use mathlib.Core.List.{List}
 use mathlib.Core.Path.{_≡_, refl, sym, _∙_, ap, ap₂, subst, subst⁻¹, subst₂}
-use native.Mathlib.Decide.{decLt, ℕ-discrete}
+use native.Mathlib.Decide.{decLt}
 use native.Mathlib.Nat.{add-zero, mul-le-mul-right}
 use native.Mathlib.Omega.{arith}
-use Rattle.clock.specs.Clock.{lastTick, later, moment, ticks}
+use Rattle.clock.specs.Clock.{lastTick, moment, ticks}
 use Rattle.clock.specs.declared.Length.{Length}
 use Rattle.clock.specs.declared.Moment.{Moment}
 use Rattle.dispatcher.specs.declared.Dispatcher.{Dispatcher}
@@ -22,25 +22,24 @@ use Rattle.moments.specs.Moments.{atMoment}
 use Rattle.moments.specs.OneGo.{laterBy, ranFor, servedFor}
 use Rattle.moments.specs.OneGoLaws.{served-budget}
 use Rattle.server.specs.declared.Server.{Server}
-use Rattle.server.specs.Server.{blank, idle}
-use Rattle.sizes.specs.Sizes.{clockEnd, mostServers}
+use Rattle.server.specs.Server.{blank}
+use Rattle.sizes.specs.Sizes.{mostServers}
 use Rattle.summary.specs.declared.Summary.{Summary}
 use Rattle.summary.specs.Summary as summary
 use Rattle.workfile.specs.Fit.{Fit, in-order-all}
 use Rattle.workfile.specs.Work.{Work}
 use Rattle.books.specs.Accepted.{nextMoment, next-arrival, next-horizon}
-use Rattle.books.specs.Budgets.{budgetsOn, ranBudgets, currentOn, traceOn, interruptedOn, Further, On, on-all, on-own, on-other, wins-picked}
+use Rattle.books.specs.Budgets.{budgetsOn, ranBudgets, currentOn, traceOn, interruptedOn, Further, On, on-all, wins-picked}
 use Rattle.books.specs.declared.Current.{Current}
-use Rattle.books.specs.Ends.{withOne}
 use Rattle.books.specs.Events.{idle-stands}
-use Rattle.books.specs.Goes.{Jobs, Counts, Ended, jobs-start, counts-start, ended-start, jobs-later, idle-jobs, idle-counts, idle-ended, idle-segmented, ran-stands, ran-other, ran-own, ran-jobs, ran-jobs-ended, ran-counts, ran-counts-spent, ran-ended, ran-ended-one, ran-segmented, its-work, its-place}
+use Rattle.books.specs.Goes.{Jobs, Counts, Ended, jobs-start, counts-start, ended-start, jobs-later, idle-jobs, idle-counts, idle-ended, idle-segmented, ran-stands, ran-other, ran-own, ran-counts, ran-counts-spent, ran-segmented}
 use Rattle.books.specs.Jobs.{job-waiting}
-use Rattle.books.specs.Keys.{keyOf, key-idle, key-works, Keyed, keyed-set, root-none, root-picked}
+use Rattle.books.specs.Keys.{keyOf, key-idle, Keyed, keyed-set, root-none, root-picked}
 use Rattle.books.specs.Segmented.{Segmented, atRest, segmented-start, withWaits}
 use Rattle.books.specs.Stands.{Stands, stands-start, stands-within, stands-clock, start-waits-none}
 use Rattle.books.specs.Stretches.{traceThen, interruptedThen, currentThen}
 use Rattle.books.specs.Took.{Taking}
-use Rattle.books.specs.Winners.{keyAt, Set, winners-same}
+use Rattle.books.specs.Winners.{Set, winners-same}
 
 -- With `lent` and `ends` the two lent lists at the start: the run stands at t with j arrivals taken, and `next` is the moment of the
 -- next one, or the horizon.

@@ -1,16 +1,16 @@
 -- A finish is known as soon as the ticks are served: never before, at that very moment, and unchanged after.
-use Prim.Native.Nat.{ℕ, zero, suc, _+_, _-_, _≤_, _<_}
+use Prim.Native.Nat.{ℕ, zero, suc, _-_, _≤_, _<_}
 use borrow.Author.Tests.{eq-eqb, ne-eqb, le-leb, lt-leb}
 use lib.Dec.{eqb}
 use mathlib.Core.Bool.{Bool, false}
-use mathlib.Core.Path.{_≡_, refl, sym, _∙_, ap, subst}
+use mathlib.Core.Path.{_≡_, sym, _∙_, subst}
 use native.Mathlib.Decide.{decLt}
 use native.Mathlib.Nat.{add-sub-of-le, not-suc-le-zero}
 use native.Mathlib.Omega.{arith}
 use Rattle.counting.specs.First.{first, first-is, first-none, first-more}
 use Rattle.history.specs.Choice.{History, served}
 use Rattle.history.specs.ChoiceLaws.{served-start, served-step, served-more}
-use Rattle.finish.specs.Finish.{firstServed, Finish, isOpen, at, servedBy}
+use Rattle.finish.specs.Finish.{firstServed, isOpen, at, servedBy}
 
 -- Of server i and an amount of work.
 module _ (h : History) (i work : ℕ) where

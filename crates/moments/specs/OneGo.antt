@@ -1,7 +1,6 @@
 -- Many ticks in one step: what k ticks that are given to one server, within its budget, make of it, and what k idle ticks do. The
 -- rules know only one tick; `OneGoLaws` shows that they come to this.
 use Prim.Native.Nat.{ℕ, _-_}
-use lib.Dec.{eqb}
 use lib.ListN.{set}
 use mathlib.Core.Bool.{cond}
 use Rattle.clock.specs.Clock.{later, ticks}

@@ -1,8 +1,8 @@
 -- Where server i is picked and k is at most its budget and its work, k ticks are one step; where nobody has work, they are idle.
 use Prim.Native.Nat.{ℕ, zero, suc, _+_, _-_, _≤_, _<_}
-use borrow.Author.Tests.{eqb-false, eq-eqb, ne-eqb}
+use borrow.Author.Tests.{eq-eqb, ne-eqb}
 use lib.Dec.{eqb}
-use lib.ListN.{length, getD, set}
+use lib.ListN.{length, set}
 use lib.Seq.{getD-set-same, getD-set-other, set-getD, set-set}
 use mathlib.Core.Bool.{Bool, true, false, cond}
 use mathlib.Core.List.{List}
@@ -11,16 +11,14 @@ use native.Mathlib.Decide.{ℕ-discrete}
 use native.Mathlib.Nat.{add-suc, add-zero, sub-zero}
 use native.Mathlib.Omega.{arith}
 use Rattle.clock.specs.Clock.{moment, ticks}
-use Rattle.clock.specs.declared.Moment.{Moment}
 use Rattle.dispatcher.specs.declared.Dispatcher.{Dispatcher}
 use Rattle.dispatcher.specs.MoveLaws.{tick-ran, tick-idle}
 use Rattle.dispatcher.specs.Moves.{Moved, Turn, idled, ranOne, ran, tick, oneLater, withServer}
 use Rattle.dispatcher.specs.Pick.{serverAt, picked}
-use Rattle.dispatcher.specs.PickLaws.{Earliest, NoneWorks, earliest-picked, none-picked, picked-none}
+use Rattle.dispatcher.specs.PickLaws.{Earliest, NoneWorks, earliest-picked, none-picked}
 use Rattle.dispatcher.specs.Within.{Within}
 use Rattle.refusal.specs.Refusals.{Said, gave}
 use Rattle.server.specs.declared.Server.{Server}
-use Rattle.server.specs.MoveLaws.{served-last, served-more}
 use Rattle.server.specs.Moves.{oneTickLess, postponed, served, spent}
 use Rattle.server.specs.Server.{blank, idle}
 use Rattle.sizes.specs.Sizes.{clockEnd}

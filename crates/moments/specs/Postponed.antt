@@ -2,16 +2,16 @@
 use Prim.Native.Nat.{ℕ, suc, _+_, _-_, _≤_, _<_}
 use borrow.Author.Tests.{eq-eqb, ne-eqb}
 use lib.Dec.{eqb}
-use mathlib.Core.Bool.{Bool, true, false, _&&_}
-use mathlib.Core.Path.{_≡_, refl, sym, _∙_, ap}
+use mathlib.Core.Bool.{false}
+use mathlib.Core.Path.{_≡_, refl, _∙_, ap}
 use native.Mathlib.Nat.{add-suc}
 use native.Mathlib.Omega.{arith}
 use Rattle.clock.specs.declared.Moment.{Moment}
 use Rattle.counting.specs.Count.{count, count-empty, count-hit, count-le, count-none}
 use Rattle.counting.specs.Tests.{and-both, and-false}
-use Rattle.dispatcher.specs.Moves.{Turn, idled, ranOne}
+use Rattle.dispatcher.specs.Moves.{idled, ranOne}
 use Rattle.history.specs.Choice.{nobody, given}
-use Rattle.refusal.specs.Refusals.{Said, gave}
+use Rattle.refusal.specs.Refusals.{gave}
 use Rattle.workfile.specs.Work.{Work}
 use Rattle.moments.specs.Moments.{turn, choiceOf, history, postpones, postponedBy}
 

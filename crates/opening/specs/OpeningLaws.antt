@@ -1,5 +1,5 @@
 -- Opening case by case, and that it lands within the ranges of the moves.
-use Prim.Native.Nat.{ℕ, _/_, _%_, _≤_, _<_}
+use Prim.Native.Nat.{ℕ, _/_, _%_, _≤_}
 use borrow.Author.Tests.{eqb-true, ltb-false, not-false}
 use lib.Dec.{ltb}
 use lib.ListN.{length}

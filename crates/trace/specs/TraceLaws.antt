@@ -2,7 +2,7 @@
 use Prim.Native.Nat.{ℕ, zero, suc, _+_, _-_, _≤_, _<_}
 use borrow.Author.Tests.{not-false}
 use mathlib.Core.Bool.{Bool, true, false, not, cond}
-use mathlib.Core.List.{List, [], _++_, append-nil}
+use mathlib.Core.List.{[], _++_, append-nil}
 use mathlib.Core.Path.{_≡_, refl, sym, _∙_, ap, ap₂, subst}
 use native.Mathlib.Decide.{decLt}
 use native.Mathlib.Nat.{add-suc, add-zero, le-antisymm, not-suc-le-zero, suc-add}
@@ -10,7 +10,6 @@ use native.Mathlib.Omega.{arith}
 use Rattle.counting.specs.First.{first, first-is, first-none, first-more, first-before, first-le}
 use Rattle.history.specs.Choice.{Choice, History, same}
 use Rattle.history.specs.ChoiceLaws.{same-equal, same-refl}
-use Rattle.trace.specs.declared.Segment.{Segment}
 use Rattle.trace.specs.Trace.{begins, lasting, segmentsOf, begun, trace}
 
 module _ (h : History) where

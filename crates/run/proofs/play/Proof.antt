@@ -1,8 +1,6 @@
 -- `run::play` meets its promise: what the run came to has the trace and the finishes, and with the counts put in its records are the summary.
 use borrow.Author.Needs.{needs}
-use lib.ListN.{length}
-use mathlib.Core.List.{List}
-use mathlib.Core.Path.{_≡_, refl, _∙_, ap}
+use mathlib.Core.Path.{_∙_, ap}
 use native.Mathlib.Omega.{arith}
 use Prim.Native.Nat.{ℕ}
 use Rattle.books.specs.Accepted.{judged-accepted, servers-read}

@@ -1,35 +1,33 @@
 -- `run::travel::travel` meets its promise: what `Travels` says holds between any two events, at the start, and at the horizon.
-use Prim.Native.Nat.{ℕ, _+_, _-_, _%_, _≤_, _<_}
+use Prim.Native.Nat.{ℕ, _-_, _%_, _≤_, _<_}
 use borrow.Author.Needs.{needs}
-use lib.ListN.{length, getD, set, length-set}
-use mathlib.Core.List.{List}
-use mathlib.Core.Path.{_≡_, refl, sym, _∙_, ap, ap₂, subst, subst⁻¹}
+use lib.ListN.{length, getD}
+use mathlib.Core.Path.{_≡_, refl, sym, _∙_, ap, subst, subst⁻¹}
 use native.Mathlib.Omega.{arith}
-use Rattle.books.specs.Accepted.{Accepted, arrivals-read, horizon-read, fit-beside, nextMoment}
+use Rattle.books.specs.Accepted.{Accepted, arrivals-read, horizon-read, fit-beside}
 use Rattle.books.specs.Ends.{finishes-again, finishes-length}
 use Rattle.books.specs.Goes.{Jobs}
 use Rattle.books.specs.Idles.{idled-on}
 use Rattle.books.specs.Jobs.{job-waiting}
 use Rattle.books.specs.Opens.{opened-jobs, served-premise}
-use Rattle.books.specs.Picked.{before-end, now-within, started, counted, cut-few, postponed-few, finishes-long, finished-few, total-few, picked-server, picked-ranged, picked-waits, picked-charged, picked-place}
+use Rattle.books.specs.Picked.{before-end, started, counted, cut-few, postponed-few, finishes-long, finished-few, total-few, picked-server, picked-ranged, picked-waits, picked-charged}
 use Rattle.books.specs.PlannedLaws.{planned-few, ranged-able, ranged-early}
 use Rattle.books.specs.Spells.{spell-ended, spell-ran, travels-with}
 use Rattle.books.specs.Stands.{Stands, stands-clock}
 use Rattle.books.specs.Took.{Took, Taking, takes-more, taking-more}
-use Rattle.books.specs.Travels.{Travels, travels-start, travels-taking, travels-idle, next-horizon-le}
+use Rattle.books.specs.Travels.{Travels, travels-start, travels-taking, next-horizon-le}
 use Rattle.books.specs.Whole.{list-whole, count-whole, finishes-whole, records-whole}
-use Rattle.clock.specs.Clock.{lastTick, moment}
 use Rattle.clock.specs.declared.Moment.{Moment}
 use Rattle.dispatcher.specs.Pick.{serverAt}
 use Rattle.finish.specs.Finish.{isOpen, finishList}
 use Rattle.moments.specs.Moments.{history}
-use Rattle.sizes.specs.Sizes.{clockEnd, mostServers}
+use Rattle.sizes.specs.Sizes.{clockEnd}
 use Rattle.summary.specs.Summary.{finishes}
 use Rattle.trace.specs.Trace.{trace}
 use Rattle.trace.specs.Written.{written}
 use Rattle.trace.specs.WrittenLaws.{written-length}
 use Rattle.workfile.specs.Fit.{Fit}
-use Rattle.workfile.specs.Work.{Work, work}
+use Rattle.workfile.specs.Work.{work}
 use Rattle.run.proofs.travel.travel.Statement.{statement}
 use Rattle.run.proofs.travel.travel.Tie as tie
 

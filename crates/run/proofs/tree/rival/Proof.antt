@@ -1,6 +1,6 @@
 -- `run::tree::rival` meets its promise: it climbs a tree that is not there, in which server i has the key of the server beside it.
 -- The root of that tree is the least of the other keys.
-use Prim.Native.Nat.{ℕ, _+_, _*_, _-_, _/_, _≤_, _<_, min}
+use Prim.Native.Nat.{ℕ, _+_, _-_, _/_, _≤_, _<_, min}
 use borrow.Author.Needs.{needs}
 use lib.ListN.{getD, set}
 use lib.Seq.{getD-set-other}
