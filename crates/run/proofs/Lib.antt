@@ -1,1 +1,2 @@
 pub mod Climb
+pub mod OneOutcome

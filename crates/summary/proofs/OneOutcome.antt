@@ -1,0 +1,10 @@
+-- Each promise of this crate allows one outcome.
+use Rattle.outcome.specs.OneOutcome.{OneOutcome, both-are}
+use Rattle.summary.proofs.blank_records.Reads as blank-records
+use Rattle.summary.proofs.with_record.Reads as with-record
+
+pub blank-records-one : OneOutcome blank-records.Post
+blank-records-one l a x y at-x at-y p q = both-are p q
+
+pub with-record-one : OneOutcome with-record.Post
+with-record-one l a x y at-x at-y p q = both-are p q

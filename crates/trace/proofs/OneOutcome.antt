@@ -1,0 +1,7 @@
+-- The promise of this crate allows one outcome: the lent list at exit is given whole.
+use mathlib.Core.Path.{refl}
+use Rattle.outcome.specs.OneOutcome.{OneOutcomeLent, both-are}
+use Rattle.trace.proofs.write.Reads as write
+
+pub write-one : OneOutcomeLent write.Post (λ l e. e .0 .now)
+write-one l a x y at-x at-y p q = (refl, both-are p q)
