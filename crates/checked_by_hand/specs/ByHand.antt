@@ -4,10 +4,19 @@ use mathlib.Core.List.{List, [], _∷_}
 use mathlib.Core.Path.{_≡_}
 use Rattle.booking.specs.Admission.{shares}
 use Rattle.clock.specs.Clock.{moment, ticks}
+use Rattle.finish.specs.Finish.{Finish, isOpen, at}
+use Rattle.moments.specs.Moments.{history}
 use Rattle.opening.specs.Opening.{listed, judged}
 use Rattle.refusal.specs.Refusals.{Said, refused, accepted}
 use Rattle.server.specs.declared.Server.{Server}
 use Rattle.server.specs.Moves.{woken}
+use Rattle.summary.specs.declared.Response.the-variants.{Absent}
+use Rattle.summary.specs.declared.Summary.{Summary}
+use Rattle.summary.specs.Summary.{finishes, summaryOf}
+use Rattle.trace.specs.declared.Segment.{Segment}
+use Rattle.trace.specs.Trace.{trace}
+use Rattle.workfile.specs.Judgement as workfile
+use Rattle.workfile.specs.Work.{work}
 
 pub data Example : Type 0 where
   -- "Waking, as (Q, T, c, d, moment)", and the d and c that it leads to
@@ -16,6 +25,12 @@ pub data Example : Type 0 where
   adding : (H : ℕ) → (table : List ℕ) → (sum : ℕ) → Example
   -- and the answer to it
   judging : (H : ℕ) → (table : List ℕ) → Said (Unit {0}) → Example
+  -- a file, by its numbers: that it is accepted with a finish list of so many places, its whole trace, the finish of a job and the
+  -- record of a server
+  accepting : (file : List ℕ) → (places : ℕ) → Example
+  tracing : (file : List ℕ) → (segments : List Segment) → Example
+  finishing : (file : List ℕ) → (job : ℕ) → Finish → Example
+  summing : (file : List ℕ) → (server : ℕ) → Summary → Example
 
 -- an idle server
 abbrev pub idleServer : (Q T c d : ℕ) → Server
@@ -28,11 +43,33 @@ idleServer Q T c d =
       waiting = ticks 0;
     }
 
+-- the bytes of a file of small numbers, "low byte first"
+abbrev pub bytes : List ℕ → List ℕ
+bytes [] = []
+bytes (n ∷ more) = n ∷ 0 ∷ 0 ∷ 0 ∷ bytes more
+
+-- start, length, server, deadline
+abbrev pub segment : (start long server deadline : ℕ) → Segment
+segment start long server deadline =
+    record { start = moment start; length = ticks long; server = server; deadline = moment deadline }
+
+-- "File P: H 10, N 12, servers (2, 5) and (3, 5), arrivals (0, 0, 5), (0, 1, 3), (6, 1, 2), no gaps."
+abbrev pub fileP : List ℕ
+fileP = 10 ∷ 12 ∷ 2 ∷ 24 ∷ 3 ∷ 40 ∷ 2 ∷ 5 ∷ 3 ∷ 5 ∷ 0 ∷ 0 ∷ 5 ∷ 0 ∷ 1 ∷ 3 ∷ 6 ∷ 1 ∷ 2 ∷ []
+
+-- "File Q: H 5, N 4, server (1, 5), arrival (1, 0, 5)"
+abbrev pub fileQ : List ℕ
+fileQ = 5 ∷ 4 ∷ 1 ∷ 24 ∷ 1 ∷ 32 ∷ 1 ∷ 5 ∷ 1 ∷ 0 ∷ 5 ∷ []
+
 -- what an example says of the definitions
 abbrev pub Holds : Example → Type 0
 Holds (waking Q T c d t d′ c′) = woken (idleServer Q T c d) (moment t) ≡ idleServer Q T c′ d′
 Holds (adding H table sum) = shares (ticks H) (listed table) ≡ sum
 Holds (judging H table answer) = judged table (ticks H) ≡ answer
+Holds (accepting file places) = workfile.judged (bytes file) places ≡ accepted
+Holds (tracing file segments) = trace (history (work (bytes file))) (work (bytes file) .horizon .tick) ≡ segments
+Holds (finishing file job finish) = finishes (work (bytes file)) job ≡ finish
+Holds (summing file server record′) = summaryOf (work (bytes file)) server ≡ record′
 
 abbrev pub AllHold : List Example → Type 0
 AllHold [] = Unit {0}
@@ -60,4 +97,15 @@ checkedByHand =
     ∷ judging 20 (1 ∷ 4 ∷ 3 ∷ 10 ∷ 10 ∷ 20 ∷ []) (refused 5 0)
     -- "(1, 3): refusal 4"
     ∷ judging 20 (1 ∷ 3 ∷ []) (refused 4 0)
+    -- "File P's segments and finishes"
+    ∷ accepting fileP 3
+    ∷ tracing fileP (segment 0 2 0 5 ∷ segment 2 3 1 5 ∷ segment 5 2 0 10 ∷ segment 7 2 1 11 ∷ segment 9 1 0 15 ∷ [])
+    ∷ finishing fileP 0 (at 10)
+    ∷ finishing fileP 1 (at 5)
+    ∷ finishing fileP 2 (at 9)
+    -- File Q: "segments (1, 1, 0, 6), (2, 1, 0, 11), (3, 1, 0, 16), the job open, postponed 3, response absent, interrupted 2"
+    ∷ accepting fileQ 1
+    ∷ tracing fileQ (segment 1 1 0 6 ∷ segment 2 1 0 11 ∷ segment 3 1 0 16 ∷ [])
+    ∷ finishing fileQ 0 isOpen
+    ∷ summing fileQ 0 (record { arrived = 1; finished = 0; postponed = 3; interrupted = 2; response = Absent })
     ∷ []
