@@ -50,13 +50,14 @@ pub count-more : (n k : ℕ) (p : ℕ → Bool) → count n p ≤ count (n + k) 
 count-more n zero p = rw add-zero (omega arith)
 count-more n (suc k) p = rw (add-suc n k) (omega (arith, count-more n k p, count-step (n + k) p .0))
 
--- one number more that passes
+-- tests that agree below n count alike
 pub count-same : (n : ℕ) (p q : ℕ → Bool) → ((i : ℕ) → i < n → p i ≡ q i) → count n p ≡ count n q
 unfolding count
 count-same zero p q same = refl
 count-same (suc n) p q same =
     ap₂ (λ (c : ℕ) (b : Bool). c + cond b 1 0) (count-same n p q (λ i b. same i (omega arith))) (same n (omega arith))
 
+-- one number more that passes
 pub count-one : (n : ℕ) (p q : ℕ → Bool) (k : ℕ) → k < n → p k ≡ false → q k ≡ true
     → ((i : ℕ) → i < n → (i ≡ k → ⊥) → p i ≡ q i) → count n q ≡ count n p + 1
 count-one zero p q k h f t same = absurd (not-suc-le-zero h)

@@ -13,7 +13,7 @@ use Rattle.history.specs.Choice.{History, served}
 use Rattle.sizes.specs.Sizes.{openJob}
 use Rattle.workfile.specs.Work.{Work}
 
--- the cost of arrival k where it is a job of server i
+-- the cost of arrival k where it is a job of server i, and nothing where it is another's
 abbrev pub costFor : Work → ℕ → ℕ → ℕ
 costFor w i k = cond (eqb (w .arrival k .server) i) (w .arrival k .cost .ticks) 0
 

@@ -1,4 +1,4 @@
--- A history: what the tick of each moment is given to. The trace and the finishes of document 01 are told from it alone.
+-- A history: what the tick of each moment is given to. The trace of document 01 is told from it alone.
 use Prim.Native.Nat.{ℕ}
 use lib.Dec.{eqb}
 use mathlib.Core.Bool.{Bool, true, false, _&&_}

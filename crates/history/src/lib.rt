@@ -1,1 +1,1 @@
-// What each moment's tick is given to: definitions only, which the trace, the finishes and the counts are functions of.
+// What each moment's tick is given to: definitions only. The trace is told from it, and the finishes from it and the costs.

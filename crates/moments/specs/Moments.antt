@@ -12,7 +12,9 @@ use Rattle.history.specs.Choice.{Choice, nobody, given, History}
 use Rattle.refusal.specs.Refusals.{Said, refused, gave}
 use Rattle.workfile.specs.Work.{Work}
 
--- step 1: "The arrivals of t are taken in list order." Of the first k arrivals those of the dispatcher's moment:
+-- step 1: "The arrivals of t are taken in list order", t being the moment at which the dispatcher stands. These are the ones of t among
+-- the first k arrivals. (A file that is accepted has no arrival that a live move would refuse: none is faulty, and all its costs
+-- together are less than may wait at one server.)
 unfoldable pub taken : Work → ℕ → Dispatcher → Dispatcher
 taken w zero d = d
 taken w (suc k) d =
@@ -20,14 +22,20 @@ taken w (suc k) d =
     (arrival (taken w k d) (w .arrival k .server) (w .arrival k .cost) .dispatcher)
     (taken w k d)
 
+-- all of them
+abbrev pub allTaken : Work → Dispatcher → Dispatcher
+allTaken w d = taken w (w .arrivals) d
+
 -- the dispatcher at moment t, before its arrivals are taken; steps 2 to 4 are a tick
 unfoldable pub atMoment : Work → ℕ → Dispatcher
 atMoment w zero = atStart (w .frame) (w .table)
-atMoment w (suc t) = tick (taken w (w .arrivals) (atMoment w t)) .dispatcher
+atMoment w (suc t) = tick (allTaken w (atMoment w t)) .dispatcher
 
--- the dispatcher at moment t once its arrivals are in, and what its tick answers
+-- the dispatcher at moment t once its arrivals are in
 unfoldable pub ready : Work → ℕ → Dispatcher
-ready w t = taken w (w .arrivals) (atMoment w t)
+ready w t = allTaken w (atMoment w t)
+
+-- what its tick answers; before N, which is no later than the clock's end, none is refused
 
 unfoldable pub turn : Work → ℕ → Said Turn
 turn w t = tick (ready w t) .answer

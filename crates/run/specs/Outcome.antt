@@ -2,12 +2,12 @@
 use Prim.Native.Nat.{ℕ}
 use lib.ListN.{length, replicate}
 use mathlib.Core.List.{List}
-use Rattle.finish.specs.Finish.{finishList}
+use Rattle.finish.specs.Finish as finishes
 use Rattle.moments.specs.Moments.{history}
-use Rattle.refusal.specs.Refusals.{Said, refused, gave, onPaper}
+use Rattle.refusal.specs.Refusals.{Said, refused, gave, accepted, onPaper}
 use Rattle.sizes.specs.Sizes.{mostServers}
 use Rattle.summary.specs.declared.Summary.{Summary}
-use Rattle.summary.specs.Summary.{blank, finishes, summaries}
+use Rattle.summary.specs.Summary as summary
 use Rattle.trace.specs.Trace.{trace}
 use Rattle.trace.specs.Written.{written}
 use Rattle.workfile.specs.Judgement.{judged}
@@ -19,18 +19,18 @@ pub record Outcome : Type 0 where
   pub verdict : Said (Unit {0})
   pub segments : ℕ
   pub summaries : List Summary
-  pub trace : List ℕ
-  pub finishes : List ℕ
+  pub traceList : List ℕ
+  pub finishList : List ℕ
 
 -- an accepted file: the count of all segments, the 64 records, the first segments, and every finish
 abbrev pub accepting : Work → List ℕ → List ℕ → Outcome
 accepting w list ends =
     record {
-      verdict = gave tt;
+      verdict = accepted;
       segments = length (trace (history w) (w .horizon .tick));
-      summaries = summaries w;
-      trace = written (trace (history w) (w .horizon .tick)) list;
-      finishes = finishList (w .arrivals) (finishes w) ends;
+      summaries = summary.summaries w;
+      traceList = written (trace (history w) (w .horizon .tick)) list;
+      finishList = finishes.finishList (w .arrivals) (summary.finishes w) ends;
     }
 
 -- a refused one: "changes no dispatcher and no lent list. A refused run also answers 64 blank records and a segment count of 0"
@@ -39,9 +39,9 @@ refusing number place list ends =
     record {
       verdict = refused number place;
       segments = 0;
-      summaries = replicate mostServers blank;
-      trace = list;
-      finishes = ends;
+      summaries = replicate mostServers summary.blank;
+      traceList = list;
+      finishList = ends;
     }
 
 abbrev pub outcomeOf : Said (Unit {0}) → Work → List ℕ → List ℕ → Outcome
@@ -59,6 +59,6 @@ says r list ends =
       verdict = onPaper (r .verdict);
       segments = r .segments;
       summaries = r .summaries;
-      trace = list;
-      finishes = ends;
+      traceList = list;
+      finishList = ends;
     }

@@ -11,11 +11,11 @@ use Rattle.run.specs.Outcome.{Outcome, accepting, refusing, outcomeOf, o
 
 -- equal parts make equal outcomes
 pub made : (v : Said (Unit {0})) {n m : ℕ} {s r : List Summary} {l k : List ℕ} {e f : List ℕ} → n ≡ m → s ≡ r → l ≡ k → e ≡ f
-    → _≡_ {A = Outcome} (record { verdict = v; segments = n; summaries = s; trace = l; finishes = e })
-    (record { verdict = v; segments = m; summaries = r; trace = k; finishes = f })
+    → _≡_ {A = Outcome} (record { verdict = v; segments = n; summaries = s; traceList = l; finishList = e })
+    (record { verdict = v; segments = m; summaries = r; traceList = k; finishList = f })
 made v {m = m} {r = r} {l = l} {e = e} p q t u =
-    ap₂ (λ (n : ℕ) (s : List Summary). record { verdict = v; segments = n; summaries = s; trace = l; finishes = e }) p q
-    ∙ ap₂ (λ (l e : List ℕ). record { verdict = v; segments = m; summaries = r; trace = l; finishes = e }) t u
+    ap₂ (λ (n : ℕ) (s : List Summary). record { verdict = v; segments = n; summaries = s; traceList = l; finishList = e }) p q
+    ∙ ap₂ (λ (l e : List ℕ). record { verdict = v; segments = m; summaries = r; traceList = l; finishList = e }) t u
 
 module _ (file list ends : List ℕ) where
   pub outcome-accepted : judged file (length ends) ≡ accepted → outcome file list ends ≡ accepting (work file) list ends

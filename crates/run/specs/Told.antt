@@ -10,11 +10,11 @@ use Rattle.run.specs.Outcome.{Outcome, says}
 
 -- the two lent lists
 pub record Lists : Type 0 where
-  pub trace : List ℕ
-  pub finishes : List ℕ
+  pub traceList : List ℕ
+  pub finishList : List ℕ
 
 abbrev pub lists : List ℕ → List ℕ → Lists
-lists l e = record { trace = l; finishes = e }
+lists l e = record { traceList = l; finishList = e }
 
 pub ran-told : (r s : Ran) (l k e f : List ℕ) → says r l e ≡ says s k f → (r ≡ s) × (lists l e ≡ lists k f)
 ran-told r s l k e f p = (
@@ -23,5 +23,5 @@ ran-told r s l k e f p = (
       (ap (λ (o : Outcome). o .segments) p)
       ∙ ap (λ (m : List Summary). record { verdict = s .verdict; segments = s .segments; summaries = m })
       (ap (λ (o : Outcome). o .summaries) p),
-  ap (λ (o : Outcome). lists (o .trace) (o .finishes)) p,
+  ap (λ (o : Outcome). lists (o .traceList) (o .finishList)) p,
 )

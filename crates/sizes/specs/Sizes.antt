@@ -19,7 +19,7 @@ arrivalBytes = 12
 abbrev pub mostFrame : ℕ
 mostFrame = 604_800
 
--- "N 0 to 2,419,200"; "10: a live tick when the clock stands at 2,419,200"
+-- "N 0 to 2,419,200"; refusal 10: "a live tick when the clock stands at 2,419,200"
 abbrev pub clockEnd : ℕ
 clockEnd = 2_419_200
 
@@ -35,7 +35,7 @@ mostArrivals = 4_096
 abbrev pub mostCost : ℕ
 mostCost = 604_800
 
--- "11: a live arrival would take its server's waiting work above 4,294,967,295"
+-- refusal 11: "a live arrival would take its server's waiting work above 4,294,967,295"
 abbrev pub mostWaiting : ℕ
 mostWaiting = 4_294_967_295
 

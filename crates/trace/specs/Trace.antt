@@ -8,12 +8,12 @@ use Rattle.counting.specs.First.{first}
 use Rattle.history.specs.Choice.{Choice, nobody, given, History, same}
 use Rattle.trace.specs.declared.Segment.{Segment}
 
--- a stretch begins at 0, and wherever a tick is given to another than the tick before it
+-- a stretch begins at 0, and wherever a tick goes to another server than the one before it, under another deadline, or to none
 unfoldable pub begins : History → ℕ → Bool
 begins h zero = true
 begins h (suc t) = not (same (h t) (h (suc t)))
 
--- the stretch that begins at b is a longest one: it lasts until a tick is given to another, or to the horizon N
+-- the stretch that begins at b is a longest one: it lasts until a tick that is not given as the one at b is, or to the horizon N
 unfoldable pub lasting : History → ℕ → ℕ → ℕ
 lasting h N b = first (N - b) (λ k. not (same (h b) (h (b + k))))
 

@@ -16,7 +16,7 @@ use Rattle.workfile.specs.Judgement.{lengthOutOfRange, sizesOutOfRange, 
 use Rattle.workfile.specs.Layout.{header}
 use Rattle.workfile.specs.PassedLaws.{listJudged}
 use Rattle.workfile.specs.Work.{Work}
-use Rattle.workfile.specs.WorkLaws.{workOf, work-of}
+use Rattle.workfile.specs.WorkLaws.{workUnder, work-under}
 
 -- what a header has that is not refused by 2
 pub record Sized (h : Header) : Type 0 where
@@ -85,9 +85,9 @@ module _ (file : List ℕ) (places : ℕ) where
     judged-layout e f = rw (long, rw read at e, rw read at f)
 
     pub judged-work : sizesOutOfRange h ≡ false → layoutBroken h (length file) ≡ false
-        → judged file places ≡ workJudged (workOf h file) places
+        → judged file places ≡ workJudged (workUnder h file) places
     unfolding judged
-    judged-work e f = rw (long, rw read at e, rw read at f, work-of file, read)
+    judged-work e f = rw (long, rw read at e, rw read at f, work-under file, read)
 
 -- the table, then the list
 pub work-refused : (w : Work) (places n p : ℕ) → admission (w .frame) (w .table) ≡ refused n p → workJudged w places ≡ refused n p

@@ -7,8 +7,8 @@ use Rattle.workfile.specs.declared.Header.{Header}
 use Rattle.workfile.specs.Layout.{header, bookingAt, arrivalAt}
 use Rattle.workfile.specs.Work.{Work, work}
 
-abbrev pub workOf : Header → List ℕ → Work
-workOf h file =
+abbrev pub workUnder : Header → List ℕ → Work
+workUnder h file =
     record {
       frame = h .frame;
       horizon = h .horizon;
@@ -17,6 +17,6 @@ workOf h file =
       arrival = λ k. arrivalAt file (h .arrivals .offset + arrivalBytes * k);
     }
 
-pub work-of : (file : List ℕ) → work file ≡ workOf (header file) file
+pub work-under : (file : List ℕ) → work file ≡ workUnder (header file) file
 unfolding work
-work-of file = refl
+work-under file = refl

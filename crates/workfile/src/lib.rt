@@ -8,7 +8,7 @@ ghost use Rattle.workfile.specs.Judgement.{lengthOutOfRange, sizesOutOfR
 ghost use Rattle.workfile.specs.JudgementLaws.{Sized, Narrow, Placed};
 ghost use Rattle.workfile.specs.Layout.{header, bookingAt, arrivalAt};
 ghost use Rattle.workfile.specs.PassedLaws.{listJudged};
-ghost use Rattle.workfile.specs.WorkLaws.{workOf};
+ghost use Rattle.workfile.specs.WorkLaws.{workUnder};
 use arrival::Arrival;
 use booking::Booking;
 use clock::Length;
@@ -117,7 +117,7 @@ pub fn judge(file: &[u8], places: usize) -> Verdict
 // 4 and 5, and where the table is admitted the arrivals and 9.
 fn judge_work(file: &[u8], h: Header, places: usize) -> Verdict
     requires { ⌜ Placed h (length (now file)) ⌝ }
-    ensures { λ r. ⌜ onPaper r ≡ workJudged (workOf h (now (file .entry))) places ⌝ }
+    ensures { λ r. ⌜ onPaper r ≡ workJudged (workUnder h (now (file .entry))) places ⌝ }
 {
     let table = admit(file, h);
     match table {
@@ -129,7 +129,7 @@ fn judge_work(file: &[u8], h: Header, places: usize) -> Verdict
 // The arrivals in order, each by 6, 7, 8, then 9.
 fn judge_arrivals(file: &[u8], h: Header, places: usize) -> Verdict
     requires { ⌜ Placed h (length (now file)) ⌝ }
-    ensures { λ r. ⌜ onPaper r ≡ listJudged (workOf h (now (file .entry))) places ⌝ }
+    ensures { λ r. ⌜ onPaper r ≡ listJudged (workUnder h (now (file .entry))) places ⌝ }
 {
     let horizon = h.horizon.tick;
     let arrivals = h.arrivals.count;
@@ -161,7 +161,7 @@ fn judge_arrivals(file: &[u8], h: Header, places: usize) -> Verdict
 // 4 at the first faulty server, then 5.
 fn admit(file: &[u8], h: Header) -> Verdict
     requires { ⌜ Placed h (length (now file)) ⌝ }
-    ensures { λ r. ⌜ onPaper r ≡ admission (h .frame) (workOf h (now (file .entry)) .table) ⌝ }
+    ensures { λ r. ⌜ onPaper r ≡ admission (h .frame) (workUnder h (now (file .entry)) .table) ⌝ }
 {
     let frame = h.frame.ticks;
     let servers = h.servers.count;

@@ -7,13 +7,13 @@ use native.Mathlib.Numerals.{add-one}
 use native.Mathlib.Omega.{arith}
 use Rattle.booking.specs.AdmissionLaws.{Sofar, sofar-none, sofar-more, sofar-le, sofar-faulty, sofar-over, sofar-whole}
 use Rattle.booking.specs.Share.{shareOf}
-use Rattle.workfile.specs.WorkLaws.{workOf}
+use Rattle.workfile.specs.WorkLaws.{workUnder}
 use Rattle.workfile.proofs.admit.Statement.{statement}
 use Rattle.workfile.proofs.admit.Tie as tie
 
 abbrev Inv-loop : tie.InvT-loop
 Inv-loop file h frame servers offset sum₀ k₀ sum k =
-    (k ≤ h .servers .count) × Sofar (h .frame) (workOf h file .table) k sum
+    (k ≤ h .servers .count) × Sofar (h .frame) (workUnder h file .table) k sum
 
 abbrev μ-loop : tie.MeasureT-loop
 μ-loop file h frame servers offset sum₀ k₀ sum k = h .servers .count - k
@@ -37,7 +37,7 @@ share-of-requires c κs = search needs
 found : (c : tie.After-share-of Inv-loop μ-loop)
     → c .share-of .result
     ≡ shareOf (c .before .before .before .before .before .args .h .frame)
-    (workOf (c .before .before .before .before .before .args .h) (c .before .before .before .before .before .args .file .now) .table .booking (c .before .before .before .loop .k))
+    (workUnder (c .before .before .before .before .before .args .h) (c .before .before .before .before .before .args .file .now) .table .booking (c .before .before .before .loop .k))
 found c = rw (c .before .booking-at .ensures) at (c .share-of .ensures)
 
 returns : tie.Need-returns Inv-loop μ-loop
@@ -49,7 +49,7 @@ returns c =
 -- one server more
 one-more : (c : tie.After-struct-known Inv-loop μ-loop)
     → Sofar (c .before .before .before .before .before .before .before .args .h .frame)
-    (workOf (c .before .before .before .before .before .before .before .args .h) (c .before .before .before .before .before .before .before .args .file .now) .table)
+    (workUnder (c .before .before .before .before .before .before .before .args .h) (c .before .before .before .before .before .before .before .args .file .now) .table)
     (suc (c .before .before .before .before .before .loop .k))
     (c .before .before .before .before .before .loop .sum + c .before .before .share-of .result .share .ticks)
 one-more c =
@@ -77,13 +77,13 @@ loop-again c = (omega arith, rw add-one (one-more c))
 -- after the loop all are added
 all-added : (c : tie.After-loop Inv-loop μ-loop)
     → Sofar (c .before .before .before .args .h .frame)
-    (workOf (c .before .before .before .args .h) (c .before .before .before .args .file .now) .table)
+    (workUnder (c .before .before .before .args .h) (c .before .before .before .args .file .now) .table)
     (c .before .before .before .args .h .servers .count)
     (c .before .loop .sum)
 all-added c =
     subst
     (λ (k : ℕ). Sofar (c .before .before .before .args .h .frame)
-    (workOf (c .before .before .before .args .h) (c .before .before .before .args .file .now) .table)
+    (workUnder (c .before .before .before .args .h) (c .before .before .before .args .file .now) .table)
     k
     (c .before .loop .sum))
     (le-antisymm (c .before .loop .inv .0) (c .loop-test .left))

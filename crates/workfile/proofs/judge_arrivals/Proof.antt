@@ -8,13 +8,13 @@ use native.Mathlib.Numerals.{add-one}
 use native.Mathlib.Omega.{arith}
 use Rattle.arrival.specs.Arrival.{faulty}
 use Rattle.workfile.specs.PassedLaws.{Passed, passed-none, passed-more, passed-faulty, passed-backward, passed-late, passed-over, passed-whole}
-use Rattle.workfile.specs.WorkLaws.{workOf}
+use Rattle.workfile.specs.WorkLaws.{workUnder}
 use Rattle.workfile.proofs.judge_arrivals.Statement.{statement}
 use Rattle.workfile.proofs.judge_arrivals.Tie as tie
 
 abbrev Inv-loop : tie.InvT-loop
 Inv-loop file h places horizon arrivals offset before₀ k₀ before k =
-    (k ≤ h .arrivals .count) × Passed (workOf h file) k before
+    (k ≤ h .arrivals .count) × Passed (workUnder h file) k before
 
 abbrev μ-loop : tie.MeasureT-loop
 μ-loop file h places horizon arrivals offset before₀ k₀ before k = h .arrivals .count - k
@@ -83,12 +83,12 @@ loop-again c = (
 
 -- after the loop all have passed
 all-passed : (c : tie.After-loop Inv-loop μ-loop)
-    → Passed (workOf (c .before .before .before .args .h) (c .before .before .before .args .file .now))
+    → Passed (workUnder (c .before .before .before .args .h) (c .before .before .before .args .file .now))
     (c .before .before .before .args .h .arrivals .count)
     (c .before .loop .before)
 all-passed c =
     subst
-    (λ (k : ℕ). Passed (workOf (c .before .before .before .args .h) (c .before .before .before .args .file .now)) k (c .before .loop .before))
+    (λ (k : ℕ). Passed (workUnder (c .before .before .before .args .h) (c .before .before .before .args .file .now)) k (c .before .loop .before))
     (le-antisymm (c .before .loop .inv .0) (c .loop-test .left))
     (c .before .loop .inv .1)
 
