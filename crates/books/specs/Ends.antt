@@ -1,7 +1,7 @@
 -- The finish list and the records of a run that has come to moment t: what the definitions give for that horizon.
 use Prim.Native.Nat.{ℕ, suc, _+_, _-_, _≤_, _<_, zero-le}
 use borrow.Author.Tests.{leb-true, lt-ltb, le-ltb, eq-eqb, ne-eqb}
-use lib.Dec.{eqb, leb, ltb}
+use lib.Dec.{leb, ltb}
 use lib.ListN.{length, getD, replicate, set, length-set, length-replicate, getD-replicate}
 use lib.Seq.{getD-set-same, getD-set-other}
 use mathlib.Core.Bool.{Bool, true, false, cond}
@@ -11,7 +11,7 @@ use native.Mathlib.Decide.{decLt, ℕ-discrete}
 use native.Mathlib.Omega.{arith}
 use Rattle.counting.specs.Count.{count, count-empty, count-hit, count-miss, count-le}
 use Rattle.counting.specs.Places.{places, length-places, getD-places, places-getD, places-same, places-replicate, set-places}
-use Rattle.counting.specs.Tests.{and-false}
+use Rattle.counting.specs.Totals.{longest}
 use Rattle.finish.specs.Finish.{Finish, isOpen, at, firstServed, servedBy, finish, shown, finishList, workOf}
 use Rattle.finish.specs.FinishLaws.{finish-open}
 use Rattle.history.specs.ChoiceLaws.{served-start}
@@ -19,7 +19,7 @@ use Rattle.moments.specs.Moments.{history}
 use Rattle.sizes.specs.Sizes.{mostServers, openJob}
 use Rattle.summary.specs.declared.Response.{Response}
 use Rattle.summary.specs.declared.Summary.{Summary}
-use Rattle.summary.specs.Summary.{blank, hasFinished, endOf, isJob, isDone, finishedOf, responses}
+use Rattle.summary.specs.Summary.{blank, isJob, responseOf, finishedOf, responses}
 use Rattle.summary.specs.SummaryLaws.{withJob, finished-same, responses-same, finished-none, responses-none, finished-more, responses-more, finished-alike, responses-alike}
 use Rattle.workfile.specs.Fit.{Fit}
 use Rattle.workfile.specs.Work.{Work}
@@ -100,16 +100,17 @@ start-open {w} fit k b =
     let i = w .arrival k .server in
     finish-open (history w) i (workOf w i (suc k)) 0 (omega (arith, served-start (history w) i, work-own w i k refl, fit .sound k b .from))
 
--- what has finished by t finished no later
-pub ends-by : (w : Work) (t k : ℕ) → endOf (finish w (history w) t k) ≤ t
-unfolding servedBy endOf
-ends-by w t k = go (leb (firstServed (history w) i (workOf w i (suc k)) t) t) refl
+-- the response of what has finished by t is at most t
+pub response-by : (w : Work) (t k : ℕ) → longest (responseOf w k (finish w (history w) t k)) ≤ t
+unfolding servedBy longest
+response-by w t k = go (leb (firstServed (history w) i (workOf w i (suc k)) t) t) refl
   where
     i : ℕ
     i = w .arrival k .server
 
-    go : (x : Bool) → leb (firstServed (history w) i (workOf w i (suc k)) t) t ≡ x → endOf (finish w (history w) t k) ≤ t
-    go true e = rw e (leb-true _ _ e)
+    go : (x : Bool) → leb (firstServed (history w) i (workOf w i (suc k)) t) t ≡ x
+        → longest (responseOf w k (finish w (history w) t k)) ≤ t
+    go true e = rw e (omega (arith, leb-true (firstServed (history w) i (workOf w i (suc k)) t) t e))
     go false e = rw e (omega arith)
 
 -- The records: what has finished, and the responses, the other counts being kept beside them until the end.
@@ -139,17 +140,14 @@ withOne s r =
 
 -- at the start all are blank
 pub records-start : {w : Work} {places : ℕ} → Fit w places → replicate mostServers blank ≡ recordsAt w 0
-unfolding recordsAt recordAt hasFinished
+unfolding recordsAt recordAt
 records-start {w} fit =
     places-replicate mostServers blank
     ∙ places-same mostServers (λ i. blank) (recordAt w 0)
     (λ i b.
     ap₂ (λ (n : ℕ) (r : Response). record { arrived = 0; finished = n; postponed = 0; interrupted = 0; response = r })
-    (sym (finished-none w (finish w (history w) 0) i (none i)))
-    (sym (responses-none w (finish w (history w) 0) i (none i))))
-  where
-    none : (i k : ℕ) → k < w .arrivals → isDone w (finish w (history w) 0) i k ≡ false
-    none i k b = rw (start-open fit k b) (and-false (eqb (w .arrival k .server) i))
+    (sym (finished-none w (finish w (history w) 0) i (λ k b own. start-open fit k b)))
+    (sym (responses-none w (finish w (history w) 0) i (λ k b own. start-open fit k b))))
 
 -- where no job ends they stay
 pub records-same : (w : Work) (t u : ℕ) → ((k : ℕ) → k < w .arrivals → finish w (history w) t k ≡ finish w (history w) u k)
@@ -244,20 +242,20 @@ module _ (n : ℕ) (arrived postponed interrupted : List ℕ) (records : List Su
 -- how many of the first k arrivals are jobs of each server
 pub record Counted (w : Work) (k : ℕ) (counts : List ℕ) : Type 0 where
   pub places : length counts ≡ mostServers
-  pub each : (i : ℕ) → i < mostServers → getD counts i 0 ≡ count k (isJob w (λ j. isOpen) i)
+  pub each : (i : ℕ) → i < mostServers → getD counts i 0 ≡ count k (isJob w i)
 
 -- none at first
 pub counted-none : (w : Work) → Counted w 0 (replicate mostServers 0)
 counted-none w =
     record {
       places = length-replicate {A = ℕ} mostServers 0;
-      each = λ i b. getD-replicate {A = ℕ} mostServers i 0 0 b ∙ sym (count-empty (isJob w (λ j. isOpen) i));
+      each = λ i b. getD-replicate {A = ℕ} mostServers i 0 0 b ∙ sym (count-empty (isJob w i));
     }
 
 module _ {w : Work} {k : ℕ} {counts : List ℕ} (c : Counted w k counts) where
   -- no more than the arrivals
   pub counted-le : (i : ℕ) → i < mostServers → getD counts i 0 ≤ k
-  counted-le i b = omega (arith, c .each i b, count-le k (isJob w (λ j. isOpen) i))
+  counted-le i b = omega (arith, c .each i b, count-le k (isJob w i))
 
   -- one more for the server of the next arrival
   pub counted-more : w .arrival k .server < mostServers
@@ -268,14 +266,14 @@ module _ {w : Work} {k : ℕ} {counts : List ℕ} (c : Counted w k counts) where
       s = w .arrival k .server
 
       go : (i : ℕ) → i < mostServers → Dec (i ≡ s)
-          → getD (set counts s (getD counts s 0 + 1)) i 0 ≡ count (suc k) (isJob w (λ j. isOpen) i)
+          → getD (set counts s (getD counts s 0 + 1)) i 0 ≡ count (suc k) (isJob w i)
       go i b (yes q) =
           ap (λ (n : ℕ). getD (set counts s (getD counts s 0 + 1)) n 0) q
           ∙ getD-set-same counts s (getD counts s 0 + 1) 0 (omega (arith, c .places))
           ∙ ap (λ (n : ℕ). getD counts n 0 + 1) (sym q)
           ∙ ap (λ (n : ℕ). n + 1) (c .each i b)
-          ∙ sym (count-hit k (isJob w (λ j. isOpen) i) (eq-eqb s i (sym q)))
+          ∙ sym (count-hit k (isJob w i) (eq-eqb s i (sym q)))
       go i b (no q) =
           getD-set-other counts s i (getD counts s 0 + 1) 0 q
           ∙ c .each i b
-          ∙ sym (count-miss k (isJob w (λ j. isOpen) i) (ne-eqb s i (λ e. q (sym e))))
+          ∙ sym (count-miss k (isJob w i) (ne-eqb s i (λ e. q (sym e))))

@@ -23,7 +23,7 @@ use Rattle.summary.specs.Summary as summary
 use Rattle.summary.specs.SummaryLaws.{finished-le, responses-total, totalOf}
 use Rattle.workfile.specs.Fit.{Fit}
 use Rattle.workfile.specs.Work.{Work}
-use Rattle.books.specs.Ends.{ends-by, recordAt, recordsAt, finishes-length}
+use Rattle.books.specs.Ends.{response-by, recordAt, recordsAt, finishes-length}
 use Rattle.books.specs.declared.Current.{Current}
 use Rattle.books.specs.Keys.{root-picked}
 use Rattle.books.specs.Segmented.{segmented-count, segmented-cut}
@@ -72,7 +72,7 @@ module _ {w : Work} {lent ends : List ℕ} {t j next : ℕ} {d : Dispatcher} {ke
       subst⁻¹ (λ (s : Summary). totalOf (s .response) ≤ mostArrivals * clockEnd) (record-now i l)
       (omega (
         arith,
-        responses-total w (finish w (history w) t) i t (λ k b. ends-by w t k),
+        responses-total w (finish w (history w) t) i t (λ k b. response-by w t k),
         mul-le-mul {n₂ = mostArrivals} {m₂ = clockEnd} (fit .arrivals) before-end,
       ))
 

@@ -1,9 +1,9 @@
 -- The end of a run: at the horizon the books come to what the definitions say of the whole run.
 use Prim.Native.Nat.{ℕ, _≤_, _<_}
-use borrow.Author.Tests.{lt-ltb, le-ltb, ne-eqb}
+use borrow.Author.Tests.{lt-ltb, le-ltb}
 use lib.Dec.{ltb}
 use lib.ListN.{length, getD}
-use mathlib.Core.Bool.{false, cond}
+use mathlib.Core.Bool.{cond}
 use mathlib.Core.List.{List}
 use mathlib.Core.Path.{_≡_, sym, _∙_, ap, ap₂, subst}
 use native.Mathlib.Decide.{decLt}
@@ -11,12 +11,12 @@ use native.Mathlib.Nat.{le-antisymm}
 use native.Mathlib.Omega.{arith}
 use Rattle.counting.specs.Places.{getD-places, places-same}
 use Rattle.dispatcher.specs.declared.Dispatcher.{Dispatcher}
-use Rattle.finish.specs.Finish.{finish, finishList}
+use Rattle.finish.specs.Finish.{isOpen, finish, finishList}
 use Rattle.moments.specs.Moments.{history, postponedBy}
 use Rattle.sizes.specs.Sizes.{mostServers}
 use Rattle.summary.specs.declared.Response.{Response}
 use Rattle.summary.specs.declared.Summary.{Summary}
-use Rattle.summary.specs.Summary.{blank, isDone, arrivedOf, interruptedOf, finishes, summaryOf, summaries}
+use Rattle.summary.specs.Summary.{blank, arrivedOf, interruptedOf, finishes, summaryOf, summaries}
 use Rattle.summary.specs.SummaryLaws.{finished-none, responses-none}
 use Rattle.trace.specs.Trace.{trace}
 use Rattle.trace.specs.Written.{written}
@@ -35,8 +35,8 @@ behind-blank {w} fit t i l =
     (finished-none w (finish w (history w) t) i none)
     (responses-none w (finish w (history w) t) i none)
   where
-    none : (k : ℕ) → k < w .arrivals → isDone w (finish w (history w) t) i k ≡ false
-    none k b = rw (ne-eqb (w .arrival k .server) i (λ e. omega (arith, fit .sound k b .known)))
+    none : (k : ℕ) → k < w .arrivals → w .arrival k .server ≡ i → finish w (history w) t k ≡ isOpen
+    none k b own = let no : ⊥ = omega (arith, fit .sound k b .known) in absurd no
 
 module _ {w : Work} {lent ends : List ℕ} {t j next : ℕ} {d : Dispatcher} {keys job left postponed interrupted list finished : List ℕ}
     {records : List Summary} {c : Current} (fit : Fit w (length ends))

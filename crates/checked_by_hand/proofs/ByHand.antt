@@ -3,9 +3,9 @@ use mathlib.Core.Path.{refl}
 use Rattle.counting.specs.Below.{every}
 use Rattle.counting.specs.Count.{count}
 use Rattle.counting.specs.First.{first}
-use Rattle.counting.specs.Most.{most}
 use Rattle.counting.specs.Places.{places}
 use Rattle.counting.specs.Sum.{sum}
+use Rattle.counting.specs.Totals.{longest, total}
 use Rattle.dispatcher.specs.Moves.{arrival, ran, tick}
 use Rattle.dispatcher.specs.Pick.{mayRun, picked}
 use Rattle.dispatcher.specs.Start.{atStart}
@@ -15,7 +15,7 @@ use Rattle.moments.specs.Moments.{atMoment, history, postponedBy, ready, taken,
 use Rattle.opening.specs.Opening.{judged}
 use Rattle.reader.specs.Word.{word}
 use Rattle.server.specs.Moves as server
-use Rattle.summary.specs.Summary.{arrivedOf, endOf, finishedOf, hasFinished, howMany, interruptedOf, responses, summaryOf}
+use Rattle.summary.specs.Summary.{arrivedOf, finishedOf, howMany, interruptedOf, responseIn, responses, responsesOf, summaryOf}
 use Rattle.trace.specs.Trace.{begins, begun, lasting}
 use Rattle.workfile.specs.Judgement as workfile
 use Rattle.workfile.specs.Layout.{arrivalAt, bookingAt, header}
@@ -23,5 +23,5 @@ use Rattle.workfile.specs.Work.{work}
 use Rattle.checked_by_hand.specs.ByHand.{AllHold, checkedByHand}
 
 pub all-hold : AllHold checkedByHand
-unfolding server.renews server.arrived server.served judged first sum every count most places arrival ran tick mayRun picked atStart firstServed servedBy workOf isFor same served atMoment history postponedBy ready taken turn waitingAt word arrivedOf endOf finishedOf hasFinished howMany interruptedOf responses summaryOf begins begun lasting workfile.arrivalJudged workfile.arrivalsJudged workfile.workJudged workfile.judged arrivalAt bookingAt header work
+unfolding server.renews server.arrived server.served judged first sum total longest every count places arrival ran tick mayRun picked atStart firstServed servedBy workOf isFor same served atMoment history postponedBy ready taken turn waitingAt word arrivedOf finishedOf howMany interruptedOf responseIn responses responsesOf summaryOf begins begun lasting workfile.arrivalJudged workfile.arrivalsJudged workfile.workJudged workfile.judged arrivalAt bookingAt header work
 all-hold = (refl, (refl, (refl, (refl, (refl, (refl, (refl, (refl, (refl, (refl, (refl, (refl, (refl, (refl, (refl, (refl, (refl, (refl, (refl, (refl, tt))))))))))))))))))))

@@ -1,7 +1,7 @@
 pub mod Below
 pub mod Count
 pub mod First
-pub mod Most
 pub mod Places
 pub mod Sum
 pub mod Tests
+pub mod Totals

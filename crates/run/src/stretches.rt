@@ -75,7 +75,7 @@ pub(crate) fn end_segment(list: &mut [u64], c: Current, t: u64) -> usize
     let server = c.server;
     let deadline = c.deadline;
     let count = c.count;
-    if server >= sizes::MOST_SERVERS {
+    if sizes::MOST_SERVERS <= server {
         return count;
     }
     let length = Length {

@@ -1,14 +1,14 @@
 -- The summary of a run (document 01, "One moment of the clock"): "an array of 64 records handed back whole, one per server, blank from n
 -- on: arrived, finished, postponed, interrupted, and the response."
-use Prim.Native.Nat.{ℕ, _+_, _-_}
+use Prim.Native.Nat.{ℕ, zero, suc, _+_}
 use lib.Dec.{eqb, ltb}
-use mathlib.Core.Bool.{Bool, true, false, cond, _&&_}
-use mathlib.Core.List.{List, [], _∷_}
-use Rattle.clock.specs.Clock.{ticks}
+use lib.ListN.{length}
+use mathlib.Core.Bool.{Bool, cond, _&&_}
+use mathlib.Core.List.{List, [], _∷_, _++_}
+use Rattle.clock.specs.Clock.{moment, ticks, until}
 use Rattle.counting.specs.Count.{count}
-use Rattle.counting.specs.Most.{most}
 use Rattle.counting.specs.Places.{places}
-use Rattle.counting.specs.Sum.{sum}
+use Rattle.counting.specs.Totals.{total, longest}
 use Rattle.finish.specs.Finish.{Finish, isOpen, at, finish}
 use Rattle.moments.specs.Moments.{history, postponedBy, waitingAt}
 use Rattle.sizes.specs.Sizes.{mostServers}
@@ -23,39 +23,37 @@ use Rattle.summary.specs.declared.Summary.{Summary}
 abbrev pub blank : Summary
 blank = record { arrived = 0; finished = 0; postponed = 0; interrupted = 0; response = Absent }
 
--- whether a job has finished
-unfoldable pub hasFinished : Finish → Bool
-hasFinished isOpen = false
-hasFinished (at t) = true
+-- "A job's response is finish minus arrival moment"; an open job has none
+abbrev pub responseOf : Work → ℕ → Finish → List ℕ
+responseOf w k isOpen = []
+responseOf w k (at t) = until (w .arrival k .moment) (moment t) .ticks ∷ []
 
--- when it did
-unfoldable pub endOf : Finish → ℕ
-endOf isOpen = 0
-endOf (at t) = t
+-- "either absent, when nothing finished, or a total and a longest"
+unfoldable pub responseIn : List ℕ → Response
+responseIn [] = Absent
+responseIn (r ∷ more) = Over (ticks (total (r ∷ more))) (ticks (longest (r ∷ more)))
+
+-- whether arrival k is a job of server i
+abbrev pub isJob : Work → ℕ → ℕ → Bool
+isJob w i k = eqb (w .arrival k .server) i
+
+unfoldable pub arrivedOf : Work → ℕ → ℕ
+arrivedOf w i = count (w .arrivals) (isJob w i)
 
 -- Of a work and the finish of each of its jobs, server i:
 module _ (w : Work) (f : ℕ → Finish) (i : ℕ) where
-  -- whether arrival k is a job of it, and one that has finished
-  abbrev pub isJob : ℕ → Bool
-  isJob k = eqb (w .arrival k .server) i
+  -- the responses of its "finished jobs alone", among the first n arrivals, in order
+  unfoldable pub responsesOf : ℕ → List ℕ
+  responsesOf zero = []
+  responsesOf (suc k) = responsesOf k ++ cond (isJob w i k) (responseOf w k (f k)) []
 
-  abbrev pub isDone : ℕ → Bool
-  isDone k = isJob k && hasFinished (f k)
-
-  unfoldable pub arrivedOf : ℕ
-  arrivedOf = count (w .arrivals) isJob
-
+  -- how many have finished
   unfoldable pub finishedOf : ℕ
-  finishedOf = count (w .arrivals) isDone
+  finishedOf = length (responsesOf (w .arrivals))
 
-  -- "A job's response is finish minus arrival moment"; here, that of a job of it that has finished
-  abbrev pub responseOf : ℕ → ℕ
-  responseOf k = cond (isDone k) (endOf (f k) - w .arrival k .moment .tick) 0
-
-  -- "either absent, when nothing finished, or a total and a longest over finished jobs alone"
+  -- their total and longest
   unfoldable pub responses : Response
-  responses =
-      cond (eqb finishedOf 0) Absent (Over (ticks (sum (w .arrivals) responseOf)) (ticks (most (w .arrivals) responseOf)))
+  responses = responseIn (responsesOf (w .arrivals))
 
 -- how many segments of a trace pass a test
 unfoldable pub howMany : (Segment → Bool) → List Segment → ℕ
@@ -82,7 +80,7 @@ finishes w k = finish w (history w) (w .horizon .tick) k
 unfoldable pub summaryOf : Work → ℕ → Summary
 summaryOf w i =
     record {
-      arrived = arrivedOf w (finishes w) i;
+      arrived = arrivedOf w i;
       finished = finishedOf w (finishes w) i;
       postponed = postponedBy w i (w .horizon .tick);
       interrupted = interruptedOf w i;

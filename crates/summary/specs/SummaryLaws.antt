@@ -1,21 +1,21 @@
 -- How the summary grows by one finished job.
-use Prim.Native.Nat.{ℕ, _+_, _-_, _*_, _≤_, _<_, max}
-use borrow.Author.Tests.{eqb-true, eq-eqb, ne-eqb}
-use lib.Dec.{eqb}
-use mathlib.Core.Bool.{Bool, true, false, cond, _&&_}
+use Prim.Native.Nat.{ℕ, zero, suc, _+_, _-_, _*_, _≤_, _<_, max}
+use borrow.Author.Tests.{eq-eqb, ne-eqb}
+use lib.ListN.{length, length-append}
+use mathlib.Core.Bool.{cond}
+use mathlib.Core.List.{List, [], _∷_, _++_, append-nil}
 use mathlib.Core.Path.{_≡_, refl, _∙_, ap, ap₂, subst⁻¹}
 use native.Mathlib.Decide.{ℕ-discrete}
+use native.Mathlib.Nat.{mul-le-mul-right, not-suc-le-zero}
 use native.Mathlib.Omega.{arith}
 use Rattle.clock.specs.declared.Length.{Length}
 use Rattle.clock.specs.Clock.{ticks}
-use Rattle.counting.specs.Count.{count-le, count-nothing, count-one, count-same, count-zero}
-use Rattle.counting.specs.Most.{most, most-one, most-same, most-le}
-use Rattle.counting.specs.Sum.{sum, sum-one, sum-same, sum-le}
+use Rattle.counting.specs.Totals.{total, longest, longest-append, total-le, Grown, grown-last, grown-append}
 use Rattle.finish.specs.Finish.{Finish, isOpen, at}
 use Rattle.workfile.specs.Work.{Work}
 use Rattle.summary.specs.declared.Response.{Response}
 use Rattle.summary.specs.declared.Response.the-variants.{Absent, Over}
-use Rattle.summary.specs.Summary.{hasFinished, endOf, isDone, finishedOf, responseOf, responses}
+use Rattle.summary.specs.Summary.{isJob, responseOf, responseIn, responsesOf, finishedOf, responses}
 
 -- the total of a response, 0 where it is absent
 unfoldable pub totalOf : Response → ℕ
@@ -41,156 +41,174 @@ pub with-job-more : (total longest : Length) (r : ℕ)
 unfolding withJob
 with-job-more total longest r = refl
 
--- where nothing has finished no response counts
-none-done : (w : Work) (f : ℕ → Finish) (i : ℕ) → finishedOf w f i ≡ 0 → (k : ℕ) → k < w .arrivals → responseOf w f i k ≤ 0
-unfolding finishedOf
-none-done w f i e k b =
-    let no : isDone w f i k ≡ false = count-zero (w .arrivals) (isDone w f i) e k b in rw no (omega arith)
+-- with one number more a list's response has one job more
+response-grown : (l m : List ℕ) (r : ℕ) → Grown l m r → responseIn m ≡ withJob (responseIn l) r
+unfolding responseIn withJob total longest
+response-grown [] [] r g = let no : ⊥ = omega (arith, g .length-is) in absurd no
+response-grown [] (b ∷ m) r g =
+    ap₂ (λ (t u : ℕ). Over (ticks t) (ticks u)) (omega (arith, g .total-is)) (omega (arith, g .longest-is))
+response-grown (a ∷ l) [] r g = let no : ⊥ = omega (arith, g .length-is) in absurd no
+response-grown (a ∷ l) (b ∷ m) r g = ap₂ (λ (t u : ℕ). Over (ticks t) (ticks u)) (g .total-is) (g .longest-is)
 
--- Jobs that finish alike are summed up alike.
-module _ (w : Work) (f g : ℕ → Finish) (i : ℕ) (done : (k : ℕ) → k < w .arrivals → isDone w f i k ≡ isDone w g i k)
-    (response : (k : ℕ) → k < w .arrivals → responseOf w f i k ≡ responseOf w g i k) where
-  finished-by : finishedOf w f i ≡ finishedOf w g i
-  unfolding finishedOf
-  finished-by = count-same (w .arrivals) (isDone w f i) (isDone w g i) done
+-- what arrival k adds to the responses of server i, by its finish
+abbrev adds : Work → ℕ → ℕ → Finish → List ℕ
+adds w i k x = cond (isJob w i k) (responseOf w k x) []
 
-  responses-by : responses w f i ≡ responses w g i
-  unfolding responses
-  responses-by =
-      rw (
-        finished-by,
-        sum-same (w .arrivals) (responseOf w f i) (responseOf w g i) response,
-        most-same (w .arrivals) (responseOf w f i) (responseOf w g i) response,
-      )
+adds-own : (w : Work) (i k : ℕ) (x : Finish) → w .arrival k .server ≡ i → adds w i k x ≡ responseOf w k x
+adds-own w i k x own = rw (eq-eqb (w .arrival k .server) i own)
+
+adds-other : (w : Work) (i k : ℕ) (x : Finish) → (w .arrival k .server ≡ i → ⊥) → adds w i k x ≡ []
+adds-other w i k x other = rw (ne-eqb (w .arrival k .server) i other)
+
+-- Jobs that add the same have the same responses.
+responses-by : (w : Work) (f g : ℕ → Finish) (i n : ℕ) → ((k : ℕ) → k < n → adds w i k (f k) ≡ adds w i k (g k))
+    → responsesOf w f i n ≡ responsesOf w g i n
+unfolding responsesOf
+responses-by w f g i zero same = refl
+responses-by w f g i (suc n) same = ap₂ _++_ (responses-by w f g i n (λ k b. same k (omega arith))) (same n (omega arith))
 
 module _ (w : Work) (f g : ℕ → Finish) (same : (k : ℕ) → k < w .arrivals → f k ≡ g k) (i : ℕ) where
-  done-same : (k : ℕ) → k < w .arrivals → isDone w f i k ≡ isDone w g i k
-  done-same k b = ap (λ (x : Finish). eqb (w .arrival k .server) i && hasFinished x) (same k b)
-
-  response-same : (k : ℕ) → k < w .arrivals → responseOf w f i k ≡ responseOf w g i k
-  response-same k b =
-      ap (λ (x : Finish). cond (eqb (w .arrival k .server) i && hasFinished x) (endOf x - w .arrival k .moment .tick) 0) (same k b)
+  list-same : responsesOf w f i (w .arrivals) ≡ responsesOf w g i (w .arrivals)
+  list-same = responses-by w f g i (w .arrivals) (λ k b. ap (adds w i k) (same k b))
 
   pub finished-same : finishedOf w f i ≡ finishedOf w g i
-  finished-same = finished-by w f g i done-same response-same
+  unfolding finishedOf
+  finished-same = ap length list-same
 
   pub responses-same : responses w f i ≡ responses w g i
-  responses-same = responses-by w f g i done-same response-same
+  unfolding responses
+  responses-same = ap responseIn list-same
 
 -- a server none of whose jobs has finished
-module _ (w : Work) (f : ℕ → Finish) (i : ℕ) (none : (k : ℕ) → k < w .arrivals → isDone w f i k ≡ false) where
+none-upto : (w : Work) (f : ℕ → Finish) (i n : ℕ) → ((k : ℕ) → k < n → w .arrival k .server ≡ i → f k ≡ isOpen)
+    → responsesOf w f i n ≡ []
+unfolding responsesOf
+none-upto w f i zero none = refl
+none-upto w f i (suc n) none =
+    ap₂ _++_ (none-upto w f i n (λ k b. none k (omega arith))) (go (ℕ-discrete (w .arrival n .server) i))
+  where
+    go : Dec (w .arrival n .server ≡ i) → adds w i n (f n) ≡ []
+    go (yes own) = adds-own w i n (f n) own ∙ ap (responseOf w n) (none n (omega arith) own)
+    go (no other) = adds-other w i n (f n) other
+
+module _ (w : Work) (f : ℕ → Finish) (i : ℕ) (none : (k : ℕ) → k < w .arrivals → w .arrival k .server ≡ i → f k ≡ isOpen) where
   pub finished-none : finishedOf w f i ≡ 0
   unfolding finishedOf
-  finished-none = count-nothing (w .arrivals) (isDone w f i) none
+  finished-none = ap length (none-upto w f i (w .arrivals) none)
 
   pub responses-none : responses w f i ≡ Absent
-  unfolding responses
-  responses-none = rw (eq-eqb (finishedOf w f i) 0 finished-none)
+  unfolding responses responseIn
+  responses-none = ap responseIn (none-upto w f i (w .arrivals) none)
 
 -- Of two runs that differ at one job alone, which is open in the first and has finished in the second.
 module _ (w : Work) (f g : ℕ → Finish) (job t : ℕ) (here : job < w .arrivals) (was : f job ≡ isOpen) (is : g job ≡ at t)
     (others : (k : ℕ) → k < w .arrivals → (k ≡ job → ⊥) → f k ≡ g k) where
   -- its own server has one finished job more
   module _ (i : ℕ) (own : w .arrival job .server ≡ i) where
-    done-else : (k : ℕ) → k < w .arrivals → (k ≡ job → ⊥) → isDone w f i k ≡ isDone w g i k
-    done-else k b n = ap (λ (x : Finish). eqb (w .arrival k .server) i && hasFinished x) (others k b n)
+    -- before it the responses are the same
+    before-job : responsesOf w f i job ≡ responsesOf w g i job
+    before-job = responses-by w f g i job (λ k b. ap (adds w i k) (others k (omega arith) (λ e. omega arith)))
 
-    response-else : (k : ℕ) → k < w .arrivals → (k ≡ job → ⊥) → responseOf w f i k ≡ responseOf w g i k
-    response-else k b n =
-        ap (λ (x : Finish). cond (eqb (w .arrival k .server) i && hasFinished x) (endOf x - w .arrival k .moment .tick) 0) (others k b n)
+    -- with it there is one more
+    with-own : Grown (responsesOf w f i (suc job)) (responsesOf w g i (suc job)) (t - w .arrival job .moment .tick)
+    unfolding responsesOf
+    with-own = rw (adds-own w i job (f job) own, adds-own w i job (g job) own, was, is, append-nil, before-job) (grown-last _ _)
 
-    done-was : isDone w f i job ≡ false
-    unfolding hasFinished
-    done-was = rw (was, eq-eqb _ _ own)
+    -- and so from there on
+    grown-upto : (n : ℕ) → job < n → n ≤ w .arrivals
+        → Grown (responsesOf w f i n) (responsesOf w g i n) (t - w .arrival job .moment .tick)
+    unfolding responsesOf
+    grown-upto zero l b = absurd (not-suc-le-zero l)
+    grown-upto (suc n) l b = go (ℕ-discrete n job) (grown-upto n)
+      where
+        r : ℕ
+        r = t - w .arrival job .moment .tick
 
-    done-is : isDone w g i job ≡ true
-    unfolding hasFinished
-    done-is = rw (is, eq-eqb _ _ own)
+        go : Dec (n ≡ job) → (job < n → n ≤ w .arrivals → Grown (responsesOf w f i n) (responsesOf w g i n) r)
+            → Grown (responsesOf w f i (suc n)) (responsesOf w g i (suc n)) r
+        go (yes q) before = subst⁻¹ (λ (k : ℕ). Grown (responsesOf w f i (suc k)) (responsesOf w g i (suc k)) r) q with-own
+        go (no q) before =
+            subst⁻¹ (λ (x : Finish). Grown (responsesOf w f i n ++ adds w i n x) (responsesOf w g i n ++ adds w i n (g n)) r)
+            (others n (omega arith) q)
+            (grown-append (before (omega arith) (omega arith)) (adds w i n (g n)))
 
-    response-was : responseOf w f i job ≡ 0
-    response-was = rw done-was
-
-    response-is : responseOf w g i job ≡ t - w .arrival job .moment .tick
-    unfolding endOf
-    response-is = rw (done-is, is)
+    grown-all : Grown (responsesOf w f i (w .arrivals)) (responsesOf w g i (w .arrivals)) (t - w .arrival job .moment .tick)
+    grown-all = grown-upto (w .arrivals) here (omega arith)
 
     pub finished-more : finishedOf w g i ≡ finishedOf w f i + 1
     unfolding finishedOf
-    finished-more = count-one (w .arrivals) (isDone w f i) (isDone w g i) job here done-was done-is done-else
-
-    total-more : sum (w .arrivals) (responseOf w g i) ≡ sum (w .arrivals) (responseOf w f i) + (t - w .arrival job .moment .tick)
-    total-more =
-        sum-one (w .arrivals) (responseOf w f i) (responseOf w g i) job here response-was response-else
-        ∙ ap (λ (n : ℕ). sum (w .arrivals) (responseOf w f i) + n) response-is
-
-    longest-more : most (w .arrivals) (responseOf w g i) ≡ max (most (w .arrivals) (responseOf w f i)) (t - w .arrival job .moment .tick)
-    longest-more =
-        most-one (w .arrivals) (responseOf w f i) (responseOf w g i) job here response-was response-else
-        ∙ ap (λ (n : ℕ). max (most (w .arrivals) (responseOf w f i)) n) response-is
+    finished-more = grown-all .length-is
 
     pub responses-more : responses w g i ≡ withJob (responses w f i) (t - w .arrival job .moment .tick)
-    unfolding responses withJob
-    responses-more = go (eqb (finishedOf w f i) 0) refl
-      where
-        some : eqb (finishedOf w g i) 0 ≡ false
-        some = ne-eqb (finishedOf w g i) 0 (λ e. omega (arith, finished-more))
-
-        go : (b : Bool) → eqb (finishedOf w f i) 0 ≡ b → responses w g i ≡ withJob (responses w f i) (t - w .arrival job .moment .tick)
-        go true e =
-            rw (some, e, total-more, longest-more)
-            (ap₂ (λ (a b : ℕ). Over (ticks a) (ticks b)) (omega (arith, nothing-total)) (omega (arith, nothing-longest)))
-          where
-            zero : (k : ℕ) → k < w .arrivals → responseOf w f i k ≤ 0
-            zero = none-done w f i (eqb-true (finishedOf w f i) 0 e)
-
-            nothing-total : sum (w .arrivals) (responseOf w f i) ≤ w .arrivals * 0
-            nothing-total = sum-le (w .arrivals) 0 (responseOf w f i) zero
-
-            nothing-longest : most (w .arrivals) (responseOf w f i) ≤ 0
-            nothing-longest = most-le (w .arrivals) 0 (responseOf w f i) zero
-        go false e = rw (some, e, total-more, longest-more)
+    unfolding responses
+    responses-more = response-grown _ _ _ grown-all
 
   -- and any other has what it had
   module _ (i : ℕ) (other : w .arrival job .server ≡ i → ⊥) where
-    done-alike : (k : ℕ) → k < w .arrivals → isDone w f i k ≡ isDone w g i k
-    done-alike k b = go (ℕ-discrete k job)
+    list-alike : responsesOf w f i (w .arrivals) ≡ responsesOf w g i (w .arrivals)
+    list-alike = responses-by w f g i (w .arrivals) (λ k b. go k b (ℕ-discrete k job))
       where
-        go : Dec (k ≡ job) → isDone w f i k ≡ isDone w g i k
-        go (yes q) = subst⁻¹ (λ (n : ℕ). isDone w f i n ≡ isDone w g i n) q (rw (ne-eqb _ _ other))
-        go (no n) = ap (λ (x : Finish). eqb (w .arrival k .server) i && hasFinished x) (others k b n)
-
-    response-alike : (k : ℕ) → k < w .arrivals → responseOf w f i k ≡ responseOf w g i k
-    response-alike k b = go (ℕ-discrete k job)
-      where
-        go : Dec (k ≡ job) → responseOf w f i k ≡ responseOf w g i k
-        go (yes q) = subst⁻¹ (λ (n : ℕ). responseOf w f i n ≡ responseOf w g i n) q (rw (ne-eqb _ _ other))
-        go (no n) =
-            ap (λ (x : Finish). cond (eqb (w .arrival k .server) i && hasFinished x) (endOf x - w .arrival k .moment .tick) 0)
-            (others k b n)
+        go : (k : ℕ) → k < w .arrivals → Dec (k ≡ job) → adds w i k (f k) ≡ adds w i k (g k)
+        go k b (yes q) =
+            subst⁻¹ (λ (n : ℕ). adds w i n (f n) ≡ adds w i n (g n)) q (rw (ne-eqb (w .arrival job .server) i other))
+        go k b (no n) = ap (adds w i k) (others k b n)
 
     pub finished-alike : finishedOf w f i ≡ finishedOf w g i
-    finished-alike = finished-by w f g i done-alike response-alike
+    unfolding finishedOf
+    finished-alike = ap length list-alike
 
     pub responses-alike : responses w f i ≡ responses w g i
-    responses-alike = responses-by w f g i done-alike response-alike
+    unfolding responses
+    responses-alike = ap responseIn list-alike
 
--- responses that are at most N add up to at most N for each arrival
-pub responses-total : (w : Work) (f : ℕ → Finish) (i N : ℕ) → ((k : ℕ) → k < w .arrivals → endOf (f k) ≤ N)
-    → totalOf (responses w f i) ≤ w .arrivals * N
-unfolding responses totalOf
-responses-total w f i N ends = go (eqb (finishedOf w f i) 0) refl
+-- an arrival adds one response at most
+adds-few : (w : Work) (i k : ℕ) (x : Finish) → length (adds w i k x) ≤ 1
+adds-few w i k x = go (ℕ-discrete (w .arrival k .server) i) x
   where
-    each : (k : ℕ) → k < w .arrivals → responseOf w f i k ≤ N
-    each k b = by (isDone w f i k) refl
-      where
-        by : (x : Bool) → isDone w f i k ≡ x → responseOf w f i k ≤ N
-        by true e = rw e (omega (arith, ends k b))
-        by false e = rw e (omega arith)
+    go : Dec (w .arrival k .server ≡ i) → (x : Finish) → length (adds w i k x) ≤ 1
+    go (yes own) isOpen = rw (eq-eqb (w .arrival k .server) i own) (omega arith)
+    go (yes own) (at t) = rw (eq-eqb (w .arrival k .server) i own) (omega arith)
+    go (no other) x = rw (ne-eqb (w .arrival k .server) i other) (omega arith)
 
-    go : (x : Bool) → eqb (finishedOf w f i) 0 ≡ x → totalOf (responses w f i) ≤ w .arrivals * N
-    go true e = rw e (omega arith)
-    go false e = rw e (sum-le (w .arrivals) N (responseOf w f i) each)
+few-upto : (w : Work) (f : ℕ → Finish) (i n : ℕ) → length (responsesOf w f i n) ≤ n
+unfolding responsesOf
+few-upto w f i zero = omega arith
+few-upto w f i (suc n) =
+    omega (arith, few-upto w f i n, adds-few w i n (f n), length-append (responsesOf w f i n) (adds w i n (f n)))
 
 pub finished-le : (w : Work) (f : ℕ → Finish) (i : ℕ) → finishedOf w f i ≤ w .arrivals
 unfolding finishedOf
-finished-le w f i = count-le (w .arrivals) (isDone w f i)
+finished-le w f i = few-upto w f i (w .arrivals)
+
+-- responses that are at most N add up to at most N for each arrival
+longest-upto : (w : Work) (f : ℕ → Finish) (i N n : ℕ) → ((k : ℕ) → k < n → longest (responseOf w k (f k)) ≤ N)
+    → longest (responsesOf w f i n) ≤ N
+unfolding responsesOf longest
+longest-upto w f i N zero each = omega arith
+longest-upto w f i N (suc n) each =
+    omega (
+      arith,
+      longest-upto w f i N n (λ k b. each k (omega arith)),
+      longest-append (responsesOf w f i n) (adds w i n (f n)),
+      go (ℕ-discrete (w .arrival n .server) i),
+    )
+  where
+    go : Dec (w .arrival n .server ≡ i) → longest (adds w i n (f n)) ≤ N
+    go (yes own) = rw (adds-own w i n (f n) own) (each n (omega arith))
+    go (no other) = rw (adds-other w i n (f n) other) (omega arith)
+
+total-in : (l : List ℕ) → totalOf (responseIn l) ≡ total l
+unfolding totalOf responseIn total
+total-in [] = refl
+total-in (r ∷ more) = refl
+
+pub responses-total : (w : Work) (f : ℕ → Finish) (i N : ℕ) → ((k : ℕ) → k < w .arrivals → longest (responseOf w k (f k)) ≤ N)
+    → totalOf (responses w f i) ≤ w .arrivals * N
+unfolding responses
+responses-total w f i N each =
+    omega (
+      arith,
+      total-in (responsesOf w f i (w .arrivals)),
+      total-le N (responsesOf w f i (w .arrivals)) (longest-upto w f i N (w .arrivals) each),
+      mul-le-mul-right N (few-upto w f i (w .arrivals)),
+    )
