@@ -12,7 +12,7 @@ use Rattle.finish.specs.Finish.{workOf}
 use Rattle.refusal.specs.Refusals.{accepted}
 use Rattle.sizes.specs.Sizes.{arrivalBytes, serverBytes}
 use Rattle.workfile.specs.declared.Header.{Header}
-use Rattle.workfile.specs.Fit.{Fit, judged-fit, judged-placed}
+use Rattle.workfile.specs.FitLaws.{Fit, judged-fit, judged-placed}
 use Rattle.workfile.specs.Judgement.{judged}
 use Rattle.workfile.specs.JudgementLaws.{Placed}
 use Rattle.workfile.specs.Layout.{arrivalAt, bookingAt, header}

@@ -20,7 +20,7 @@ use Rattle.server.specs.Moves.{postponed}
 use Rattle.server.specs.Server.{blank, idle}
 use Rattle.sizes.specs.Sizes.{clockEnd, mostFrame, mostServers}
 use Rattle.summary.specs.declared.Summary.{Summary}
-use Rattle.workfile.specs.Fit.{Fit}
+use Rattle.workfile.specs.FitLaws.{Fit}
 use Rattle.workfile.specs.Work.{Work}
 use Rattle.books.specs.declared.Current.{Current}
 use Rattle.books.specs.Goes.{Jobs, Counts, Ended, ran-stands, ran-jobs, ran-counts-spent, ran-ended, ran-segmented}

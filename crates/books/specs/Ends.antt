@@ -21,7 +21,7 @@ use Rattle.summary.specs.declared.Response.{Response}
 use Rattle.summary.specs.declared.Summary.{Summary}
 use Rattle.summary.specs.Summary.{blank, isJob, responseOf, finishedOf, responses}
 use Rattle.summary.specs.SummaryLaws.{withJob, finished-same, responses-same, finished-none, responses-none, finished-more, responses-more, finished-alike, responses-alike}
-use Rattle.workfile.specs.Fit.{Fit}
+use Rattle.workfile.specs.FitLaws.{Fit}
 use Rattle.workfile.specs.Work.{Work}
 use Rattle.books.specs.Jobs.{work-own}
 

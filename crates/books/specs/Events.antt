@@ -18,13 +18,13 @@ use Rattle.history.specs.ChoiceLaws.{served-own, served-other, for-nobody, for-
 use Rattle.moments.specs.Moments.{atMoment, ready, turn, history}
 use Rattle.moments.specs.OneGo.{laterBy, ranFor, servedFor}
 use Rattle.moments.specs.OneGoLaws.{Quiet, taken-none, at-ran, turn-ran, at-idle, turn-idle, served-waiting}
-use Rattle.moments.specs.Postponed.{history-ran, history-idle}
-use Rattle.moments.specs.Stands.{at-keeps}
+use Rattle.moments.specs.PostponedLaws.{history-ran, history-idle}
+use Rattle.moments.specs.MomentLaws.{at-keeps}
 use Rattle.refusal.specs.Refusals.{gave}
 use Rattle.server.specs.declared.Server.{Server}
 use Rattle.server.specs.Server.{blank}
 use Rattle.sizes.specs.Sizes.{clockEnd}
-use Rattle.workfile.specs.Fit.{Fit}
+use Rattle.workfile.specs.FitLaws.{Fit}
 use Rattle.workfile.specs.Work.{Work}
 use Rattle.books.specs.Stands.{Stands, stands-within, stands-clock, stands-ready}
 

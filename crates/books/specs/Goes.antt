@@ -15,12 +15,12 @@ use Rattle.history.specs.Choice.{given, served}
 use Rattle.history.specs.ChoiceLaws.{served-start}
 use Rattle.moments.specs.Moments.{history, postponedBy, waitingAt}
 use Rattle.moments.specs.OneGo.{ranFor, servedFor}
-use Rattle.moments.specs.Postponed.{postponed-not, postponed-other, postponed-own, postponed-idle, postponed-start}
+use Rattle.moments.specs.PostponedLaws.{postponed-not, postponed-other, postponed-own, postponed-idle, postponed-start}
 use Rattle.server.specs.declared.Server.{Server}
 use Rattle.sizes.specs.Sizes.{clockEnd, mostServers}
 use Rattle.summary.specs.declared.Summary.{Summary}
 use Rattle.summary.specs.Summary.{blank}
-use Rattle.workfile.specs.Fit.{Fit}
+use Rattle.workfile.specs.FitLaws.{Fit}
 use Rattle.workfile.specs.Work.{Work}
 use Rattle.books.specs.declared.Current.{Current}
 use Rattle.books.specs.Ends.{finishes-same, finishes-one, recordsAt, records-start, records-same, records-one, start-open, withOne}

@@ -12,7 +12,7 @@ use Rattle.finish.specs.FinishLaws.{finish-open, finish-stays, finish-now, fini
 use Rattle.history.specs.Choice.{nobody, given, served}
 use Rattle.history.specs.ChoiceLaws.{served-own, served-other, for-nobody, for-other}
 use Rattle.moments.specs.Moments.{history}
-use Rattle.workfile.specs.Fit.{Fit}
+use Rattle.workfile.specs.FitLaws.{Fit}
 use Rattle.workfile.specs.Work.{Work}
 
 -- The work of one server, arrival by arrival.

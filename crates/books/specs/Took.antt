@@ -13,7 +13,7 @@ use Rattle.dispatcher.specs.Pick.{serverAt}
 use Rattle.dispatcher.specs.Within.{Within}
 use Rattle.server.specs.RangeLaws.{deadline-below}
 use Rattle.sizes.specs.Sizes.{clockEnd}
-use Rattle.workfile.specs.Fit.{Fit, in-order-all}
+use Rattle.workfile.specs.FitLaws.{Fit, in-order-all}
 use Rattle.workfile.specs.Work.{Work}
 use Rattle.books.specs.Accepted.{nextMoment, next-arrival, next-horizon}
 use Rattle.books.specs.Keys.{keyOf, Keyed, keyed-set}

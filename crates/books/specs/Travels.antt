@@ -26,7 +26,7 @@ use Rattle.server.specs.Server.{blank}
 use Rattle.sizes.specs.Sizes.{mostServers}
 use Rattle.summary.specs.declared.Summary.{Summary}
 use Rattle.summary.specs.Summary as summary
-use Rattle.workfile.specs.Fit.{Fit, in-order-all}
+use Rattle.workfile.specs.FitLaws.{Fit, in-order-all}
 use Rattle.workfile.specs.Work.{Work}
 use Rattle.books.specs.Accepted.{nextMoment, next-arrival, next-horizon}
 use Rattle.books.specs.Budgets.{budgetsOn, ranBudgets, currentOn, traceOn, interruptedOn, Further, On, on-all, wins-picked}

@@ -20,7 +20,7 @@ use Rattle.summary.specs.Summary.{blank, arrivedOf, interruptedOf, finishes, su
 use Rattle.summary.specs.SummaryLaws.{finished-none, responses-none}
 use Rattle.trace.specs.Trace.{trace}
 use Rattle.trace.specs.Written.{written}
-use Rattle.workfile.specs.Fit.{Fit}
+use Rattle.workfile.specs.FitLaws.{Fit}
 use Rattle.workfile.specs.Work.{Work}
 use Rattle.books.specs.declared.Current.{Current}
 use Rattle.books.specs.Ends.{recordAt, recordsAt, filledAt, filled, Counted}

@@ -1,13 +1,13 @@
 -- A finish is known as soon as the ticks are served: never before, at that very moment, and unchanged after.
 use Prim.Native.Nat.{ℕ, zero, suc, _-_, _≤_, _<_}
-use borrow.Author.Tests.{eq-eqb, ne-eqb, le-leb, lt-leb}
-use lib.Dec.{eqb}
-use mathlib.Core.Bool.{Bool, false}
-use mathlib.Core.Path.{_≡_, sym, _∙_, subst}
+use borrow.Author.Tests.{eqb-true, leb-true, eq-eqb, ne-eqb, le-leb, lt-leb}
+use lib.Dec.{eqb, leb}
+use mathlib.Core.Bool.{Bool, true, false, cond}
+use mathlib.Core.Path.{_≡_, refl, sym, _∙_, subst}
 use native.Mathlib.Decide.{decLt}
 use native.Mathlib.Nat.{add-sub-of-le, not-suc-le-zero}
 use native.Mathlib.Omega.{arith}
-use Rattle.counting.specs.First.{first, first-is, first-none, first-more}
+use Rattle.counting.specs.First.{first, first-is, first-none, first-more, first-passes}
 use Rattle.history.specs.Choice.{History, served}
 use Rattle.history.specs.ChoiceLaws.{served-start, served-step, served-more}
 use Rattle.finish.specs.Finish.{firstServed, isOpen, at, servedBy}
@@ -75,3 +75,23 @@ module _ (h : History) (i work : ℕ) where
       go : Dec (served h i t < work) → servedBy h i work u ≡ servedBy h i work t
       go (yes less) = finish-open u (omega arith) ∙ sym (finish-open t less)
       go (no more) = finish-stays t u (omega arith) le
+
+  -- "Zero is never a finish."
+  pub finish-not-zero : (N t : ℕ) → 0 < work → servedBy h i work N ≡ at t → 0 < t
+  unfolding servedBy firstServed
+  finish-not-zero N t some e = go (leb (first (suc N) reached) N) refl
+    where
+      at-zero : (f : ℕ) → reached f ≡ true → f ≡ t → 0 < t
+      at-zero zero passes q = let no : ⊥ = omega (arith, eqb-true (served h i 0) work passes, served-start h i) in absurd no
+      at-zero (suc f) passes q = omega arith
+
+      go : (b : Bool) → leb (first (suc N) reached) N ≡ b → 0 < t
+      go true l =
+          let found : first (suc N) reached < suc N = omega (arith, leb-true (first (suc N) reached) N l) in
+          let same : at (first (suc N) reached) ≡ at t = subst (λ (b : Bool). cond b (at (first (suc N) reached)) isOpen ≡ at t) l e in
+          at-zero (first (suc N) reached) (first-passes (suc N) reached found) (cc)
+      go false l =
+          let never : isOpen ≡ at t = subst (λ (b : Bool). cond b (at (first (suc N) reached)) isOpen ≡ at t) l e in
+          let none : _≡_ {A = ℕ} 0 1 = cc in
+          let no : ⊥ = omega arith in
+          absurd no

@@ -1,5 +1,5 @@
+pub mod MomentLaws
 pub mod Moments
 pub mod OneGo
 pub mod OneGoLaws
-pub mod Postponed
-pub mod Stands
+pub mod PostponedLaws

@@ -1,4 +1,4 @@
-pub mod Fit
+pub mod FitLaws
 pub mod Judgement
 pub mod JudgementLaws
 pub mod Layout

@@ -6,7 +6,7 @@ use Prim.Native.Nat.{ℕ}
 use Rattle.books.specs.Accepted.{judged-accepted, servers-read}
 use Rattle.books.specs.Ends.{filled}
 use Rattle.refusal.specs.Refusals.{accepted}
-use Rattle.workfile.specs.Fit.{judged-fit}
+use Rattle.workfile.specs.FitLaws.{judged-fit}
 use Rattle.run.specs.OutcomeLaws.{made}
 use Rattle.run.proofs.play.Statement.{statement}
 use Rattle.run.proofs.play.Tie as tie

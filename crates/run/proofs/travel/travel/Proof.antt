@@ -26,7 +26,7 @@ use Rattle.summary.specs.Summary.{finishes}
 use Rattle.trace.specs.Trace.{trace}
 use Rattle.trace.specs.Written.{written}
 use Rattle.trace.specs.WrittenLaws.{written-length}
-use Rattle.workfile.specs.Fit.{Fit}
+use Rattle.workfile.specs.FitLaws.{Fit}
 use Rattle.workfile.specs.Work.{work}
 use Rattle.run.proofs.travel.travel.Statement.{statement}
 use Rattle.run.proofs.travel.travel.Tie as tie

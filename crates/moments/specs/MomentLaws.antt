@@ -18,7 +18,7 @@ use Rattle.dispatcher.specs.Start.{atStart}
 use Rattle.dispatcher.specs.StartLaws.{admitted-within}
 use Rattle.dispatcher.specs.Within.{Within}
 use Rattle.sizes.specs.Sizes.{clockEnd}
-use Rattle.workfile.specs.Fit.{Fit}
+use Rattle.workfile.specs.FitLaws.{Fit}
 use Rattle.workfile.specs.Work.{Work}
 use Rattle.moments.specs.Moments.{taken, atMoment, ready}
 
