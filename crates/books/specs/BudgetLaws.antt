@@ -15,7 +15,8 @@ use Rattle.server.specs.declared.Server.{Server}
 use Rattle.sizes.specs.Sizes.{clockEnd, mostFrame, mostServers}
 use Rattle.books.specs.declared.Current.{Current}
 use Rattle.books.specs.Budgets.{budgetsOn, currentOn, interruptedOn, Able, NoneAbove, Further}
-use Rattle.books.specs.Stretches.{countAfter, interruptedAfter, stays, currentThen, interruptedThen}
+use Rattle.books.specs.Stretches.{countAfter, interruptedAfter}
+use Rattle.books.specs.Turns.{stays, currentThen, interruptedThen}
 use Rattle.books.specs.Winners.{Rival}
 
 -- the first r of the numbers that rise from `from` on by `step` are below a bound

@@ -28,7 +28,8 @@ use Rattle.books.specs.Events.{event-at, event-turns, event-history, eve
 use Rattle.books.specs.Jobs.{Job, job-later, job-waits, job-goes-on, job-ends, job-waiting, work-none, idle-ends-none, run-ends-no-other, job-was-open, job-still-open, job-finishes}
 use Rattle.books.specs.Segmented.{Segmented, segmented-then, withWaits}
 use Rattle.books.specs.Stands.{Stands, stands-within}
-use Rattle.books.specs.Stretches.{chosen-server, chosen-nobody, traceThen, interruptedThen, currentThen}
+use Rattle.books.specs.Stretches.{chosen-server, chosen-nobody}
+use Rattle.books.specs.Turns.{traceThen, interruptedThen, currentThen}
 
 -- which job of each server is served, and what is left of it
 pub record Jobs (w : Work) (t j : ℕ) (job left : List ℕ) : Type 0 where
@@ -171,13 +172,16 @@ module _ {w : Work} {places t j : ℕ} {d : Dispatcher} (fit : Fit w places) (s 
             → Job w (t + suc k) j n (getD job n 0) (getD (set left i (getD left i 0 - suc k)) n 0)
         each n l (yes q) =
             subst⁻¹ (λ (n : ℕ). Job w (t + suc k) j n (getD job n 0) (getD (set left i (getD left i 0 - suc k)) n 0)) q
-            (subst⁻¹ (Job w (t + suc k) j i (getD job i 0)) (getD-set-same left i (getD left i 0 - suc k) 0 (omega (arith, b .left-places)))
+            (subst⁻¹ (Job w (t + suc k) j i (getD job i 0))
+            (getD-set-same left i (getD left i 0 - suc k) 0 (omega (arith, b .left-places)))
             (job-goes-on (suc k) its some within its-ticks more))
         each n l (no other) =
-            subst⁻¹ (Job w (t + suc k) j n (getD job n 0)) (getD-set-other left i n (getD left i 0 - suc k) 0 other) (others-wait n l other)
+            subst⁻¹ (Job w (t + suc k) j n (getD job n 0)) (getD-set-other left i n (getD left i 0 - suc k) 0 other)
+            (others-wait n l other)
 
     -- or has ended
-    pub ran-jobs-ended : suc k ≡ getD left i 0 → Jobs w (t + suc k) j (set job i (getD job i 0 + 1)) (set left i (getD left i 0 - suc k))
+    pub ran-jobs-ended : suc k ≡ getD left i 0 → Jobs w (t + suc k) j (set job i (getD job i 0 + 1))
+        (set left i (getD left i 0 - suc k))
     ran-jobs-ended e =
         record {
           job-places = simp length-set (b .job-places);
@@ -189,7 +193,8 @@ module _ {w : Work} {places t j : ℕ} {d : Dispatcher} (fit : Fit w places) (s 
             → Job w (t + suc k) j n (getD (set job i (getD job i 0 + 1)) n 0) (getD (set left i (getD left i 0 - suc k)) n 0)
         each n l (yes q) =
             subst⁻¹
-            (λ (n : ℕ). Job w (t + suc k) j n (getD (set job i (getD job i 0 + 1)) n 0) (getD (set left i (getD left i 0 - suc k)) n 0))
+            (λ (n : ℕ). Job w (t + suc k) j n (getD (set job i (getD job i 0 + 1)) n 0)
+            (getD (set left i (getD left i 0 - suc k)) n 0))
             q
             (subst₂ (Job w (t + suc k) j i)
             (sym (getD-set-same job i (getD job i 0 + 1) 0 (omega (arith, b .job-places)) ∙ omega arith))
@@ -211,7 +216,8 @@ module _ {w : Work} {places t j : ℕ} {d : Dispatcher} (fit : Fit w places) (s 
         n
         other)
 
-    pub ran-counts : {postponed : List ℕ} → Counts w t postponed → suc k < serverAt d i .remaining .ticks → Counts w (t + suc k) postponed
+    pub ran-counts : {postponed : List ℕ} → Counts w t postponed → suc k < serverAt d i .remaining .ticks → Counts w (t + suc k)
+        postponed
     ran-counts c less =
         record {
           places = c .places;
@@ -259,7 +265,8 @@ module _ {w : Work} {places t j : ℕ} {d : Dispatcher} (fit : Fit w places) (s 
         record {
           finishes-is =
               e .finishes-is
-              ∙ finishes-same (w .arrivals) ends (finish w (history w) t) (finish w (history w) (t + suc k)) (λ a l. same a l (ℕ-discrete a (getD job i 0)));
+              ∙ finishes-same (w .arrivals) ends (finish w (history w) t) (finish w (history w) (t + suc k))
+              (λ a l. same a l (ℕ-discrete a (getD job i 0)));
           records-is = e .records-is ∙ records-same w t (t + suc k) (λ a l. same a l (ℕ-discrete a (getD job i 0)));
         }
       where
@@ -270,7 +277,8 @@ module _ {w : Work} {places t j : ℕ} {d : Dispatcher} (fit : Fit w places) (s 
             ∙ sym (job-still-open fit k (serverAt d i .deadline) its some within (s .count) history-is more))
         same a l (no n) = no-other-ends a l n
 
-    pub ran-ended-one : {ends finishes : List ℕ} {records : List Summary} → w .arrivals ≤ length ends → Ended w t ends finishes records
+    pub ran-ended-one : {ends finishes : List ℕ} {records : List Summary} → w .arrivals ≤ length ends → Ended w t ends finishes
+        records
         → suc k ≡ getD left i 0
         → Ended w (t + suc k) ends (set finishes (getD job i 0) (t + suc k))
         (set records i (withOne (getD records i blank) (t + suc k - w .arrival (getD job i 0) .moment .tick)))
@@ -278,16 +286,19 @@ module _ {w : Work} {places t j : ℕ} {d : Dispatcher} (fit : Fit w places) (s 
         record {
           finishes-is =
               ap₂ (λ (l : List ℕ) (x : Finish). set l (getD job i 0) (shown x)) (e .finishes-is) (sym now-ended)
-              ∙ finishes-one (w .arrivals) ends (finish w (history w) t) (finish w (history w) (t + suc k)) (getD job i 0) its-place places
+              ∙ finishes-one (w .arrivals) ends (finish w (history w) t) (finish w (history w) (t + suc k)) (getD job i 0)
+              its-place places
               no-other-ends;
           records-is =
-              ap (λ (l : List Summary). set l i (withOne (getD l i blank) (t + suc k - w .arrival (getD job i 0) .moment .tick))) (e .records-is)
+              ap (λ (l : List Summary). set l i (withOne (getD l i blank) (t + suc k - w .arrival (getD job i 0) .moment .tick)))
+              (e .records-is)
               ∙ subst
               (λ (n : ℕ).
               set (recordsAt w t) n (withOne (getD (recordsAt w t) n blank) (t + suc k - w .arrival (getD job i 0) .moment .tick))
               ≡ recordsAt w (t + suc k))
               (its .own some)
-              (records-one w t (t + suc k) (getD job i 0) its-place (subst⁻¹ (λ (n : ℕ). n < mostServers) (its .own some) among) was-open
+              (records-one w t (t + suc k) (getD job i 0) its-place (subst⁻¹ (λ (n : ℕ). n < mostServers) (its .own some) among)
+              was-open
               now-ended
               no-other-ends);
         }
@@ -297,7 +308,8 @@ module _ {w : Work} {places t j : ℕ} {d : Dispatcher} (fit : Fit w places) (s 
 
     -- the segments
     pub ran-segmented : {lent list interrupted : List ℕ} {c : Current} → Segmented w lent list interrupted c t
-        → Segmented w lent (traceThen c t i (serverAt d i .deadline) list) (interruptedThen c i (serverAt d i .deadline) interrupted)
+        → Segmented w lent (traceThen c t i (serverAt d i .deadline) list)
+        (interruptedThen c i (serverAt d i .deadline) interrupted)
         (withWaits (currentThen c t i (serverAt d i .deadline)) (servedFor (serverAt d i) (suc k) .waiting .ticks))
         (t + suc k)
     unfolding waitingAt

@@ -30,7 +30,7 @@ use Rattle.books.specs.Goes.{Jobs, Counts, Ended, ran-jobs, ran-jobs-end
 use Rattle.books.specs.Keys.{keyOf, Keyed}
 use Rattle.books.specs.Segmented.{Segmented, withWaits}
 use Rattle.books.specs.Stands.{Stands}
-use Rattle.books.specs.Stretches.{traceThen, interruptedThen, currentThen}
+use Rattle.books.specs.Turns.{traceThen, interruptedThen, currentThen}
 use Rattle.books.specs.Travels.{Travels, later-than, next-horizon-le, pick, travels-then}
 use Rattle.books.specs.Winners.{Set}
 
@@ -67,17 +67,22 @@ pub record Happens (t next : ℕ) (d : Dispatcher) (keys rest postponed interrup
   pub postponed-is : postponed′ ≡ set postponed i (getD postponed i 0 + (cond (eqb r (serverAt d i .remaining .ticks)) 1 0 + n))
   pub interrupted-is :
       interrupted′
-      ≡ interruptedOn (currentNow c d t i r) (t + r) i (servedFor (serverAt d i) r) n (interruptedThen c i (serverAt d i .deadline) interrupted)
+      ≡ interruptedOn (currentNow c d t i r) (t + r) i (servedFor (serverAt d i) r) n
+      (interruptedThen c i (serverAt d i .deadline) interrupted)
   pub list-is :
-      list′ ≡ traceOn (currentNow c d t i r) (t + r) i (servedFor (serverAt d i) r) n (traceThen c t i (serverAt d i .deadline) list)
+      list′ ≡ traceOn (currentNow c d t i r) (t + r) i (servedFor (serverAt d i) r) n
+      (traceThen c t i (serverAt d i .deadline) list)
   pub current-is : c′ ≡ currentOn (currentNow c d t i r) (t + r) i (servedFor (serverAt d i) r) n
 
-module _ {w : Work} {lent ends : List ℕ} {t j next : ℕ} {d : Dispatcher} {keys job left postponed interrupted list finishes : List ℕ}
+module _ {w : Work} {lent ends : List ℕ} {t j next : ℕ} {d : Dispatcher}
+    {keys job left postponed interrupted list finishes : List ℕ}
     {records : List Summary} {c : Current} (fit : Fit w (length ends))
     (v : Travels w lent ends t j next d keys job left postponed interrupted list finishes records c) (ahead : t < next) (i : ℕ)
     (server : i < mostServers) (works : getD keys 1 0 ≡ lastTick → ⊥) (is : i ≡ getD keys 1 0 % 64) {work rest : List ℕ}
-    (b : Jobs w t j work rest) (some : 0 < getD rest i 0) {spare n : ℕ} {keys′ rest′ postponed′ interrupted′ list′ : List ℕ} {c′ : Current}
-    (k : ℕ) (h : Happens t next d keys rest postponed interrupted list c i (suc k) spare n keys′ rest′ postponed′ interrupted′ list′ c′) where
+    (b : Jobs w t j work rest) (some : 0 < getD rest i 0) {spare n : ℕ} {keys′ rest′ postponed′ interrupted′ list′ : List ℕ}
+    {c′ : Current}
+    (k : ℕ) (h : Happens t next d keys rest postponed interrupted list c i (suc k) spare n keys′ rest′ postponed′ interrupted′
+    list′ c′) where
   its-rest : getD (set rest i (getD rest i 0 - suc k)) i 0 ≡ getD rest i 0 - suc k
   its-rest = getD-set-same rest i (getD rest i 0 - suc k) 0 (omega (arith, b .left-places))
 
@@ -100,7 +105,8 @@ module _ {w : Work} {lent ends : List ℕ} {t j next : ℕ} {d : Dispatcher} {ke
   -- with these jobs, finishes and records after the first ticks
   finally : {work′ finishes′ : List ℕ} {records′ : List Summary} → Jobs w (t + suc k) j work′ (set rest i (getD rest i 0 - suc k))
       → Ended w (t + suc k) ends finishes′ records′
-      → Travels w lent ends (t + gone (serverAt d i) (suc k) n) j next (dispatcherAfter d t i (suc k) n) keys′ work′ rest′ postponed′
+      → Travels w lent ends (t + gone (serverAt d i) (suc k) n) j next (dispatcherAfter d t i (suc k) n) keys′ work′ rest′
+      postponed′
       interrupted′
       list′
       finishes′
@@ -173,7 +179,8 @@ module _ {w : Work} {lent ends : List ℕ} {t j next : ℕ} {d : Dispatcher} {ke
   budgets-leave : suc k ≡ getD rest i 0 → gone (serverAt d i) (suc k) n ≡ suc k
   budgets-leave e = go n (h .further .fits)
     where
-      go : (m : ℕ) → (0 < m → m * servedFor (serverAt d i) (suc k) .budget .ticks < spare) → suc k + m * serverAt d i .budget .ticks ≡ suc k
+      go : (m : ℕ) → (0 < m → m * servedFor (serverAt d i) (suc k) .budget .ticks < spare) → suc k + m * serverAt d
+          i .budget .ticks ≡ suc k
       go zero fits = omega arith
       go (suc m) fits = let no : ⊥ = omega (arith, fits (omega arith), h .of-job) in absurd no
 
@@ -237,15 +244,19 @@ module _ {w : Work} {lent ends : List ℕ} {t j next : ℕ} {d : Dispatcher} {ke
               ) in
               absurd no
 
-module _ {w : Work} {lent ends : List ℕ} {t j next : ℕ} {d : Dispatcher} {keys job left postponed interrupted list finishes : List ℕ}
+module _ {w : Work} {lent ends : List ℕ} {t j next : ℕ} {d : Dispatcher}
+    {keys job left postponed interrupted list finishes : List ℕ}
     {records : List Summary} {c : Current} (fit : Fit w (length ends))
     (v : Travels w lent ends t j next d keys job left postponed interrupted list finishes records c) (ahead : t < next) (i : ℕ)
     (server : i < mostServers) (works : getD keys 1 0 ≡ lastTick → ⊥) (is : i ≡ getD keys 1 0 % 64) {work rest : List ℕ}
-    (b : Jobs w t j work rest) (some : 0 < getD rest i 0) {spare n : ℕ} {keys′ rest′ postponed′ interrupted′ list′ : List ℕ} {c′ : Current} where
+    (b : Jobs w t j work rest) (some : 0 < getD rest i 0) {spare n : ℕ} {keys′ rest′ postponed′ interrupted′ list′ : List ℕ}
+    {c′ : Current} where
   -- where some of the job is left, and where none is
-  pub travels-ran : (r : ℕ) → Happens t next d keys rest postponed interrupted list c i r spare n keys′ rest′ postponed′ interrupted′ list′ c′
+  pub travels-ran : (r : ℕ) → Happens t next d keys rest postponed interrupted list c i r spare n keys′ rest′ postponed′
+      interrupted′ list′ c′
       → (getD rest i 0 ≡ gone (serverAt d i) r n → ⊥)
-      → Travels w lent ends (t + gone (serverAt d i) r n) j next (dispatcherAfter d t i r n) keys′ work rest′ postponed′ interrupted′ list′ finishes
+      → Travels w lent ends (t + gone (serverAt d i) r n) j next (dispatcherAfter d t i r n) keys′ work rest′ postponed′
+      interrupted′ list′ finishes
       records
       c′
   travels-ran zero h leaves = let no : ⊥ = omega (arith, h .some) in absurd no
@@ -254,7 +265,8 @@ module _ {w : Work} {lent ends : List ℕ} {t j next : ℕ} {d : Dispatcher} {ke
   pub travels-ended : (r : ℕ)
       → Happens t next d keys rest postponed interrupted list c i r spare n keys′ rest′ postponed′ interrupted′ list′ c′
       → w .arrivals ≤ length ends → getD rest i 0 ≡ gone (serverAt d i) r n
-      → Travels w lent ends (t + gone (serverAt d i) r n) j next (dispatcherAfter d t i r n) keys′ (set work i (getD work i 0 + 1)) rest′
+      → Travels w lent ends (t + gone (serverAt d i) r n) j next (dispatcherAfter d t i r n) keys′
+      (set work i (getD work i 0 + 1)) rest′
       postponed′
       interrupted′
       list′

@@ -18,7 +18,8 @@ use Rattle.books.specs.Keys.{Keyed}
 use Rattle.books.specs.Picked.{before-end}
 use Rattle.books.specs.Segmented.{Segmented, withWaits}
 use Rattle.books.specs.Stands.{Stands, stands-clock}
-use Rattle.books.specs.Stretches.{countAfter, stays, traceThen, interruptedThen, currentThen}
+use Rattle.books.specs.Stretches.{countAfter}
+use Rattle.books.specs.Turns.{stays, traceThen, interruptedThen, currentThen}
 use Rattle.books.specs.Travels.{Travels, travels-idle}
 
 -- the dispatcher at another moment

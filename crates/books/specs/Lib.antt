@@ -9,6 +9,7 @@ pub mod Happens
 pub mod Idles
 pub mod Jobs
 pub mod Keys
+pub mod Onward
 pub mod Opened
 pub mod Opens
 pub mod Picked
@@ -20,5 +21,6 @@ pub mod Stands
 pub mod Stretches
 pub mod Took
 pub mod Travels
+pub mod Turns
 pub mod Whole
 pub mod Winners

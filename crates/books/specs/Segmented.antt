@@ -19,7 +19,8 @@ use Rattle.trace.specs.declared.Segment.{Segment}
 use Rattle.trace.specs.Trace.{begins, lasting, segmentsOf, begun, trace}
 use Rattle.workfile.specs.Work.{Work}
 use Rattle.books.specs.declared.Current.{Current}
-use Rattle.books.specs.Stretches.{chosen, chosen-server, chosen-nobody, Stretch, stretch-start, stretch-on, stretch-new, Segments, segments-start, segments-end, Interrupted, interrupted-end, interruptedAfter, stays, currentThen, traceThen, interruptedThen}
+use Rattle.books.specs.Stretches.{chosen, chosen-server, chosen-nobody, Stretch, stretch-start, stretch-on, stretch-new, Segments, segments-start, segments-end, Interrupted, interrupted-end, interruptedAfter}
+use Rattle.books.specs.Turns.{stays, currentThen, traceThen, interruptedThen}
 
 pub record Segmented (w : Work) (lent list interrupted : List ℕ) (c : Current) (t : ℕ) : Type 0 where
   pub stretch : Stretch w (c .start .tick) t (chosen (c .server) (c .deadline))

@@ -21,7 +21,7 @@ use Rattle.books.specs.Goes.{Ended, Jobs}
 use Rattle.books.specs.Happens.{Happens, dispatcherAfter, travels-ran, travels-ended}
 use Rattle.books.specs.Planned.{Planned}
 use Rattle.books.specs.Segmented.{withWaits}
-use Rattle.books.specs.Stretches.{traceThen, interruptedThen, currentThen}
+use Rattle.books.specs.Turns.{traceThen, interruptedThen, currentThen}
 use Rattle.books.specs.Travels.{Travels}
 use Rattle.books.specs.Winners.{Set}
 

@@ -49,14 +49,16 @@ unfolding atMoment atStart
 start-waits-none w i = go (decLt i mostServers)
   where
     go : Dec (i < mostServers) → serverAt (atMoment w 0) i .waiting .ticks ≡ 0
-    go (yes l) = ap (λ (s : Server). s .waiting .ticks) (getD-places mostServers (startAt (w .table)) i blank l) ∙ by (ltb i (w .table .count))
+    go (yes l) = ap (λ (s : Server). s .waiting .ticks) (getD-places mostServers (startAt (w .table)) i blank l) ∙ by
+        (ltb i (w .table .count))
       where
         by : (b : Bool) → (cond b (fresh (w .table .booking i)) blank) .waiting .ticks ≡ 0
         by true = refl
         by false = refl
     go (no l) =
         ap (λ (s : Server). s .waiting .ticks)
-        (List·getD-eq-default (places mostServers (startAt (w .table))) blank (omega (arith, length-places mostServers (startAt (w .table)))))
+        (List·getD-eq-default (places mostServers (startAt (w .table))) blank
+        (omega (arith, length-places mostServers (startAt (w .table)))))
 
 pub stands-start : (w : Work) → Stands w 0 0 (atMoment w 0)
 unfolding taken
@@ -121,7 +123,8 @@ module _ {w : Work} {places : ℕ} (fit : Fit w places) where
           ap (λ (x : Dispatcher). serverAt x k) accepted-as
           ∙ getD-set-other (d .servers) (w .arrival j .server) k _ blank n
 
-      own-waits : serverAt (arrival d (w .arrival j .server) (w .arrival j .cost) .dispatcher) (w .arrival j .server) .waiting .ticks
+      own-waits : serverAt (arrival d (w .arrival j .server) (w .arrival j .cost) .dispatcher)
+          (w .arrival j .server) .waiting .ticks
           ≡ serverAt d (w .arrival j .server) .waiting .ticks + w .arrival j .cost .ticks
       own-waits =
           ap (λ (x : Dispatcher). serverAt x (w .arrival j .server) .waiting .ticks) accepted-as
@@ -143,10 +146,12 @@ module _ {w : Work} {places : ℕ} (fit : Fit w places) where
           }
         where
           adds : (k : ℕ) → Dec (k ≡ w .arrival j .server)
-              → served (history w) k t + serverAt (arrival d (w .arrival j .server) (w .arrival j .cost) .dispatcher) k .waiting .ticks
+              → served (history w) k t + serverAt (arrival d (w .arrival j .server) (w .arrival j .cost) .dispatcher)
+              k .waiting .ticks
               ≡ workOf w k (suc j)
           adds k (yes q) =
-              subst⁻¹ (λ (n : ℕ). served (history w) n t + serverAt (arrival d (w .arrival j .server) (w .arrival j .cost) .dispatcher) n .waiting .ticks ≡ workOf w n (suc j)) q
+              subst⁻¹ (λ (n : ℕ). served (history w) n t + serverAt
+              (arrival d (w .arrival j .server) (w .arrival j .cost) .dispatcher) n .waiting .ticks ≡ workOf w n (suc j)) q
               (omega (arith, own-waits, s .adds (w .arrival j .server), work-own w (w .arrival j .server) j refl))
           adds k (no n) =
               omega (

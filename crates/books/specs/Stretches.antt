@@ -25,7 +25,6 @@ use Rattle.trace.specs.TraceLaws.{trace-stretch}
 use Rattle.trace.specs.Written.{written, put}
 use Rattle.trace.specs.WrittenLaws.{written-more}
 use Rattle.workfile.specs.Work.{Work}
-use Rattle.books.specs.declared.Current.{Current}
 
 -- a server under a deadline, or nobody where the number is that of no server
 unfoldable pub chosen : ℕ → Moment → Choice
@@ -82,7 +81,8 @@ module _ {w : Work} {e t : ℕ} {x : Choice} (s : Stretch w e t x) where
       go : (u : ℕ) → u ≡ t → begins (history w) u ≡ true
       go zero q = refl
       go (suc u) q =
-          let last : history w u ≡ x = ap (history w) (omega (arith, s .late (omega arith))) ∙ s .alike (u - e) (omega (arith, s .late (omega arith))) in
+          let last : history w u ≡ x = ap (history w) (omega (arith, s .late (omega arith))) ∙ s .alike (u - e)
+          (omega (arith, s .late (omega arith))) in
           ap₂ (λ (a b : Choice). not (same a b)) last (ap (history w) q ∙ here) ∙ ap not (same-differ x y n)
 
   pub stretch-new : (k : ℕ) (y : Choice) → (x ≡ y → ⊥) → ((q : ℕ) → q < suc k → history w (t + q) ≡ y) → Stretch w t (t + suc k) y
@@ -129,7 +129,8 @@ interruptedAfter i waits list = cond (ltb i mostServers && ltb 0 waits) (set lis
 -- a stretch of a server
 module _ (i : ℕ) (l : i < mostServers) where
   pub trace-after : (d : Moment) (e t count : ℕ) (list : List ℕ)
-      → traceAfter i d e t count list ≡ put count (record { start = moment e; length = ticks (t - e); server = i; deadline = d }) list
+      → traceAfter i d e t count list ≡ put count (record { start = moment e; length = ticks (t - e); server = i; deadline = d })
+      list
   unfolding traceAfter
   trace-after d e t count list = rw (lt-ltb i mostServers l)
 
@@ -248,11 +249,15 @@ interrupted-end {w} {e} {t} list i waits d places s waiting g j b = go (decLt i 
             → getD (cond (ltb 0 waits) (set list i (getD list i 0 + 1)) list) j 0
             ≡ howMany (leavesWork w j) (trace (history w) e) + cond (eqb i j && ltb 0 (waitingAt w j t)) 1 0
         counted (no n) =
-            interrupted-other list i j (getD list i 0 + 1) (ltb 0 waits) n ∙ g j b ∙ rw (ne-eqb i j n) (sym (add-zero (howMany (leavesWork w j) (trace (history w) e))))
-        counted (yes q) = subst (λ (n : ℕ). getD (cond (ltb 0 waits) (set list i (getD list i 0 + 1)) list) n 0 ≡ howMany (leavesWork w n) (trace (history w) e) + cond (eqb i n && ltb 0 (waitingAt w n t)) 1 0) q
+            interrupted-other list i j (getD list i 0 + 1) (ltb 0 waits) n ∙ g j b ∙ rw (ne-eqb i j n)
+            (sym (add-zero (howMany (leavesWork w j) (trace (history w) e))))
+        counted (yes q) = subst
+            (λ (n : ℕ). getD (cond (ltb 0 waits) (set list i (getD list i 0 + 1)) list) n 0 ≡ howMany (leavesWork w n)
+            (trace (history w) e) + cond (eqb i n && ltb 0 (waitingAt w n t)) 1 0) q
             (rw (eq-eqb i i refl, ← (waiting l)) (own (ltb 0 waits)))
           where
-            own : (x : Bool) → getD (cond x (set list i (getD list i 0 + 1)) list) i 0 ≡ howMany (leavesWork w i) (trace (history w) e) + cond x 1 0
+            own : (x : Bool) → getD (cond x (set list i (getD list i 0 + 1)) list) i 0 ≡ howMany (leavesWork w i)
+                (trace (history w) e) + cond x 1 0
             own true = getD-set-same list i (getD list i 0 + 1) 0 (omega arith) ∙ ap (λ (n : ℕ). n + 1) (g i l)
             own false = g i l ∙ sym (add-zero (howMany (leavesWork w i) (trace (history w) e)))
 
@@ -271,7 +276,8 @@ howMany-same p q h N (suc t) alike le =
     ∙ ap₂ _+_ (howMany-same p q h N t alike (omega arith)) (here (begins h t) (h t))
     ∙ sym (howMany-append q (begun h N t) (cond (begins h t) (segmentsOf (h t) t (lasting h N t)) []))
   where
-    here : (b : Bool) (x : Choice) → howMany p (cond b (segmentsOf x t (lasting h N t)) []) ≡ howMany q (cond b (segmentsOf x t (lasting h N t)) [])
+    here : (b : Bool) (x : Choice) → howMany p (cond b (segmentsOf x t (lasting h N t)) []) ≡ howMany q
+        (cond b (segmentsOf x t (lasting h N t)) [])
     here false x = refl
     here true nobody = refl
     here true (given i d) = ap (λ (z : Bool). cond z 1 0 + 0) (alike _ (ends h N t (omega arith)))
@@ -297,7 +303,8 @@ module _ {w : Work} {e : ℕ} (i : ℕ) (d : Moment) (s : Stretch w e (w .horizo
       ended : howMany (before j) (trace (history w) e) ≡ howMany (leavesWork w j) (trace (history w) e)
       ended = go (decLt 0 (w .horizon .tick))
         where
-          go : Dec (0 < w .horizon .tick) → howMany (before j) (trace (history w) e) ≡ howMany (leavesWork w j) (trace (history w) e)
+          go : Dec (0 < w .horizon .tick) → howMany (before j) (trace (history w) e) ≡ howMany (leavesWork w j)
+              (trace (history w) e)
           go (yes l) =
               howMany-same (before j) (leavesWork w j) (history w) e e
               (λ g b. rw (lt-ltb (ending g) (w .horizon .tick) (omega (arith, s .late l))))
@@ -309,57 +316,3 @@ module _ {w : Work} {e : ℕ} (i : ℕ) (d : Moment) (s : Stretch w e (w .horizo
             where
               start : e ≡ 0
               start = omega (arith, s .from)
-
--- whether a tick given to server i under deadline d goes on with the current stretch
-unfoldable pub stays : Current → ℕ → Moment → Bool
-stays c i d = eqb (c .server) i && eqb (c .deadline .tick) (d .tick)
-
--- the stretch that a run is in after that tick at t, the lent list and the interruptions
-unfoldable pub currentThen : Current → ℕ → ℕ → Moment → Current
-currentThen c t i d =
-    cond (stays c i d) c
-    (record { start = moment t; server = i; deadline = d; waits = c .waits; count = countAfter (c .server) (c .count) })
-
-unfoldable pub traceThen : Current → ℕ → ℕ → Moment → List ℕ → List ℕ
-traceThen c t i d list = cond (stays c i d) list (traceAfter (c .server) (c .deadline) (c .start .tick) t (c .count) list)
-
-unfoldable pub interruptedThen : Current → ℕ → Moment → List ℕ → List ℕ
-interruptedThen c i d list = cond (stays c i d) list (interruptedAfter (c .server) (c .waits) list)
-
--- the same server under the same deadline: nothing changes
-module _ (c : Current) (i : ℕ) (d : Moment) (e : stays c i d ≡ true) where
-  pub current-stays : (t : ℕ) → currentThen c t i d ≡ c
-  unfolding currentThen
-  current-stays t = rw e
-
-  pub trace-stays : (t : ℕ) (list : List ℕ) → traceThen c t i d list ≡ list
-  unfolding traceThen
-  trace-stays t list = rw e
-
-  pub interrupted-stays : (list : List ℕ) → interruptedThen c i d list ≡ list
-  unfolding interruptedThen
-  interrupted-stays list = rw e
-
--- another: the stretch has ended
-module _ (c : Current) (i : ℕ) (d : Moment) (e : stays c i d ≡ false) where
-  pub current-turns : (t : ℕ) → currentThen c t i d
-      ≡ record { start = moment t; server = i; deadline = d; waits = c .waits; count = countAfter (c .server) (c .count) }
-  unfolding currentThen
-  current-turns t = rw e
-
-  pub trace-turns : (t : ℕ) (list : List ℕ) → traceThen c t i d list ≡ traceAfter (c .server) (c .deadline) (c .start .tick) t (c .count) list
-  unfolding traceThen
-  trace-turns t list = rw e
-
-  pub interrupted-turns : (list : List ℕ) → interruptedThen c i d list ≡ interruptedAfter (c .server) (c .waits) list
-  unfolding interruptedThen
-  interrupted-turns list = rw e
-
--- which of the two it is: under the same server the deadline tells
-pub stays-server : (c : Current) (i : ℕ) (d : Moment) → c .server ≡ i → stays c i d ≡ eqb (c .deadline .tick) (d .tick)
-unfolding stays
-stays-server c i d e = rw (eq-eqb (c .server) i e)
-
-pub stays-other : (c : Current) (i : ℕ) (d : Moment) → (c .server ≡ i → ⊥) → stays c i d ≡ false
-unfolding stays
-stays-other c i d n = rw (ne-eqb (c .server) i n)

@@ -29,7 +29,8 @@ use Rattle.summary.specs.Summary as summary
 use Rattle.workfile.specs.FitLaws.{Fit, in-order-all}
 use Rattle.workfile.specs.Work.{Work}
 use Rattle.books.specs.Accepted.{nextMoment, next-arrival, next-horizon}
-use Rattle.books.specs.Budgets.{budgetsOn, ranBudgets, currentOn, traceOn, interruptedOn, Further, On, on-all, wins-picked}
+use Rattle.books.specs.Budgets.{budgetsOn, ranBudgets, currentOn, traceOn, interruptedOn, Further, wins-picked}
+use Rattle.books.specs.Onward.{On, on-all}
 use Rattle.books.specs.declared.Current.{Current}
 use Rattle.books.specs.Events.{idle-stands}
 use Rattle.books.specs.Goes.{Jobs, Counts, Ended, jobs-start, counts-start, ended-start, jobs-later, idle-jobs, idle-counts, idle-ended, idle-segmented, ran-stands, ran-other, ran-own, ran-counts, ran-counts-spent, ran-segmented}
@@ -37,7 +38,7 @@ use Rattle.books.specs.Jobs.{job-waiting}
 use Rattle.books.specs.Keys.{keyOf, key-idle, Keyed, keyed-set, root-none, root-picked}
 use Rattle.books.specs.Segmented.{Segmented, atRest, segmented-start, withWaits}
 use Rattle.books.specs.Stands.{Stands, stands-start, stands-within, stands-clock, start-waits-none}
-use Rattle.books.specs.Stretches.{traceThen, interruptedThen, currentThen}
+use Rattle.books.specs.Turns.{traceThen, interruptedThen, currentThen}
 use Rattle.books.specs.Took.{Taking}
 use Rattle.books.specs.Winners.{Set, winners-same}
 

@@ -42,8 +42,16 @@ tick-keeps d h = go (ltb (picked d) (d .count)) refl
   where
     go : (p : Bool) → ltb (picked d) (d .count) ≡ p
         → (tick d .dispatcher .clock ≡ moment (suc (d .clock .tick))) × (tick d .dispatcher .count ≡ d .count)
-    go true q = (rw (ne-eqb (d .clock .tick) clockEnd (λ e. omega arith), q) (ap moment (omega arith)), rw (ne-eqb (d .clock .tick) clockEnd (λ e. omega arith), q))
-    go false q = (rw (ne-eqb (d .clock .tick) clockEnd (λ e. omega arith), q) (ap moment (omega arith)), rw (ne-eqb (d .clock .tick) clockEnd (λ e. omega arith), q))
+    go true q = (
+      rw (ne-eqb (d .clock .tick) clockEnd (λ e. omega arith), q) (ap moment (omega arith)),
+      rw
+          (ne-eqb (d .clock .tick) clockEnd (λ e. omega arith), q),
+    )
+    go false q = (
+      rw (ne-eqb (d .clock .tick) clockEnd (λ e. omega arith), q) (ap moment (omega arith)),
+      rw
+          (ne-eqb (d .clock .tick) clockEnd (λ e. omega arith), q),
+    )
 
 module _ (w : Work) where
   -- one arrival after the other
@@ -78,7 +86,11 @@ module _ (w : Work) where
       go : (b : Bool) → eqb (w .arrival k .moment .tick) (d .clock .tick) ≡ b
           → (taken w k d .clock ≡ d .clock) × (taken w k d .count ≡ d .count)
           → (taken w (suc k) d .clock ≡ d .clock) × (taken w (suc k) d .count ≡ d .count)
-      go true e before = (rw e (arrival-keeps (taken w k d) (w .arrival k .server) (w .arrival k .cost) .0 ∙ before .0), rw e (arrival-keeps (taken w k d) (w .arrival k .server) (w .arrival k .cost) .1 ∙ before .1))
+      go true e before = (
+        rw e (arrival-keeps (taken w k d) (w .arrival k .server) (w .arrival k .cost) .0 ∙ before .0),
+        rw e
+            (arrival-keeps (taken w k d) (w .arrival k .server) (w .arrival k .cost) .1 ∙ before .1),
+      )
       go false e before = (rw e (before .0), rw e (before .1))
 
   pub taken-within : (k : ℕ) {d : Dispatcher} → Within d → Within (taken w k d)
@@ -108,7 +120,8 @@ module _ (w : Work) where
   at-keeps (suc t) le = go (at-keeps t (omega arith)) (taken-keeps (w .arrivals) (atMoment w t))
     where
       go : (atMoment w t .clock ≡ moment t) × (atMoment w t .count ≡ w .table .count)
-          → (taken w (w .arrivals) (atMoment w t) .clock ≡ atMoment w t .clock) × (taken w (w .arrivals) (atMoment w t) .count ≡ atMoment w t .count)
+          → (taken w (w .arrivals) (atMoment w t) .clock ≡ atMoment w t .clock) ×
+          (taken w (w .arrivals) (atMoment w t) .count ≡ atMoment w t .count)
           → (atMoment w (suc t) .clock ≡ moment (suc t)) × (atMoment w (suc t) .count ≡ w .table .count)
       go before took =
           let clock : taken w (w .arrivals) (atMoment w t) .clock ≡ moment t = took .0 ∙ before .0 in
@@ -117,5 +130,8 @@ module _ (w : Work) where
 
   pub ready-keeps : (t : ℕ) → t ≤ clockEnd → (ready w t .clock ≡ moment t) × (ready w t .count ≡ w .table .count)
   unfolding ready
-  ready-keeps t le =
-      (taken-keeps (w .arrivals) (atMoment w t) .0 ∙ at-keeps t le .0, taken-keeps (w .arrivals) (atMoment w t) .1 ∙ at-keeps t le .1)
+  ready-keeps t le = (
+    taken-keeps (w .arrivals) (atMoment w t) .0 ∙ at-keeps t le .0,
+    taken-keeps (w .arrivals) (atMoment w t) .1 ∙ at-keeps t
+        le .1,
+  )

@@ -25,7 +25,8 @@ unfolding postponedBy
 postponed-le w i t = count-le t (λ u. postpones i (turn w u))
 
 -- k + 1 ticks of server i with c of its budget left
-module _ (w : Work) (t i k c : ℕ) (d : Moment) (turns : (q : ℕ) → q < suc k → turn w (t + q) ≡ gave (ranOne i d (eqb (c - suc q) 0))) where
+module _ (w : Work) (t i k c : ℕ) (d : Moment)
+    (turns : (q : ℕ) → q < suc k → turn w (t + q) ≡ gave (ranOne i d (eqb (c - suc q) 0))) where
   pub history-ran : (q : ℕ) → q < suc k → history w (t + q) ≡ given i d
   unfolding history
   history-ran q b = ap choiceOf (turns q b)
@@ -48,7 +49,8 @@ module _ (w : Work) (t i k c : ℕ) (d : Moment) (turns : (q : ℕ) → q < suc 
   unfolding postponedBy
   postponed-own e =
       ap (λ (u : ℕ). count u (λ v. postpones i (turn w v))) (add-suc t k)
-      ∙ count-hit (t + k) (λ v. postpones i (turn w v)) (ap (postpones i) (turns k (omega arith)) ∙ and-both (eq-eqb i i refl) (eq-eqb (c - suc k) 0 (omega arith)))
+      ∙ count-hit (t + k) (λ v. postpones i (turn w v))
+      (ap (postpones i) (turns k (omega arith)) ∙ and-both (eq-eqb i i refl) (eq-eqb (c - suc k) 0 (omega arith)))
       ∙ ap (λ (n : ℕ). n + 1) (count-none t k (λ v. postpones i (turn w v)) (λ q b. early i q (omega arith) (omega arith)))
 
 -- idle ticks

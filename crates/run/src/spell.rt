@@ -4,7 +4,7 @@ ghost use Prim.Native.Nat.{_+_, _*_, _≤_, _<_};
 ghost use Rattle.books.specs.Budgets.{Able, NoneAbove, currentOn, interruptedOn, traceOn};
 ghost use Rattle.books.specs.Planned.{Planned};
 ghost use Rattle.books.specs.Segmented.{withWaits};
-ghost use Rattle.books.specs.Stretches.{currentThen, interruptedThen, traceThen};
+ghost use Rattle.books.specs.Turns.{currentThen, interruptedThen, traceThen};
 ghost use Rattle.books.specs.Winners.{Winners};
 ghost use Rattle.sizes.specs.Sizes.{clockEnd, mostFrame};
 use crate::budgets;

@@ -2,7 +2,8 @@
 ghost use mathlib.Core.Path.{_≡_};
 ghost use Prim.Native.Nat.{_≤_, _<_};
 ghost use lib.ListN.{getD};
-ghost use Rattle.books.specs.Stretches.{stays, currentThen, traceThen, interruptedThen, traceAfter, countAfter, interruptedAfter};
+ghost use Rattle.books.specs.Stretches.{traceAfter, countAfter, interruptedAfter};
+ghost use Rattle.books.specs.Turns.{stays, currentThen, traceThen, interruptedThen};
 ghost use Rattle.clock.specs.Clock.{lastTick};
 use books::Current;
 use clock::Length;

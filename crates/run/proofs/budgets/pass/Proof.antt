@@ -11,7 +11,7 @@ use Rattle.books.specs.declared.Current.{Current}
 use Rattle.books.specs.BudgetLaws.{deadline-more, on-begun, on-count, on-above}
 use Rattle.books.specs.Budgets.{budgetsOn, currentOn, traceOn, interruptedOn, Able, NoneAbove}
 use Rattle.books.specs.Segmented.{withWaits}
-use Rattle.books.specs.Stretches.{currentThen, traceThen, interruptedThen}
+use Rattle.books.specs.Turns.{currentThen, traceThen, interruptedThen}
 use Rattle.clock.specs.Clock.{lastTick, moment, later, shown}
 use Rattle.clock.specs.declared.Moment.{Moment}
 use Rattle.server.specs.declared.Server.{Server}

@@ -51,7 +51,13 @@ returns-2 c =
     let args = c .before .before .before .before .before .before .args in
     record {
       stays = λ some. let no : ⊥ = omega (arith, c .before .before .before .if1 .left) in absurd no;
-      opens = λ none. (_, c .before .next-job .ensures, refl, ap (λ (a : Arrival). set (args .left .now) (args .i) (a .cost .ticks)) (c .arrival-of .ensures));
+      opens = λ none. (
+        _,
+        c .before .next-job .ensures,
+        refl,
+        ap
+            (λ (a : Arrival). set (args .left .now) (args .i) (a .cost .ticks)) (c .arrival-of .ensures),
+      );
     }
 
 pub open-next-spec : {M : Type 1} → statement M

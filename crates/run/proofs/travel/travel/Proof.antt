@@ -2,6 +2,7 @@
 use Prim.Native.Nat.{ℕ, _-_, _%_, _≤_, _<_}
 use borrow.Author.Needs.{needs}
 use lib.ListN.{length, getD}
+use mathlib.Core.List.{List}
 use mathlib.Core.Path.{_≡_, refl, sym, _∙_, ap, subst, subst⁻¹}
 use native.Mathlib.Omega.{arith}
 use Rattle.books.specs.Accepted.{Accepted, arrivals-read, horizon-read, fit-beside}
@@ -40,18 +41,21 @@ abbrev μ-loop2 : tie.MeasureT-loop2
     work file .arrivals - j
 
 abbrev Inv-loop : tie.InvT-loop
-Inv-loop file list₀ finishes₀ horizon d₀ keys₀ job₀ left₀ postponed₀ interrupted₀ records₀ c₀ t₀ j₀ next₀ list finishes d keys job left postponed interrupted records c t j next =
+Inv-loop file list₀ finishes₀ horizon d₀ keys₀ job₀ left₀ postponed₀ interrupted₀ records₀ c₀ t₀ j₀ next₀ list finishes d keys job
+    left postponed interrupted records c t j next =
     Travels (work file) list₀ finishes₀ t j next d keys job left postponed interrupted list finishes records c
 
 abbrev μ-loop : tie.MeasureT-loop
-μ-loop file list₀ finishes₀ horizon d₀ keys₀ job₀ left₀ postponed₀ interrupted₀ records₀ c₀ t₀ j₀ next₀ list finishes d keys job left postponed interrupted records c t j next =
+μ-loop file list₀ finishes₀ horizon d₀ keys₀ job₀ left₀ postponed₀ interrupted₀ records₀ c₀ t₀ j₀ next₀ list finishes d keys job
+    left postponed interrupted records c t j next =
     horizon - t
 
 header-of-requires : tie.Need-header-of-requires Inv-loop2 μ-loop2 Inv-loop μ-loop
 header-of-requires c κs = search needs
 
 open-all-requires : tie.Need-open-all-requires Inv-loop2 μ-loop2 Inv-loop μ-loop
-open-all-requires c κs = omega (arith, arrivals-read _ (c .before .header-of .ensures), c .before .before .before .before .before .pre .1)
+open-all-requires c κs = omega
+    (arith, arrivals-read _ (c .before .header-of .ensures), c .before .before .before .before .before .pre .1)
 
 start-requires : tie.Need-start-requires Inv-loop2 μ-loop2 Inv-loop μ-loop
 start-requires c κs = c .before .before .before .before .before .before .before .before .pre .0
@@ -62,42 +66,84 @@ blank-records-requires c κs = search needs
 next-moment-requires : tie.Need-next-moment-requires Inv-loop2 μ-loop2 Inv-loop μ-loop
 next-moment-requires c κs = c .before .before .before .before .before .before .before .before .before .before .pre .0
 
+-- The file and the lists, as they are when the loop begins.
+abbrev file : tie.After-next-moment Inv-loop2 μ-loop2 Inv-loop μ-loop → List ℕ
+file c = c .before .before .before .before .before .before .before .before .before .before .before .args .file .now
+
+abbrev lent : tie.After-next-moment Inv-loop2 μ-loop2 Inv-loop μ-loop → List ℕ
+lent c = c .before .before .before .before .before .before .before .before .before .before .before .args .list .now
+
+abbrev ends : tie.After-next-moment Inv-loop2 μ-loop2 Inv-loop μ-loop → List ℕ
+ends c = c .before .before .before .before .before .before .before .before .before .before .before .args .finishes .now
+
+abbrev opened-list : tie.After-next-moment Inv-loop2 μ-loop2 Inv-loop μ-loop → List ℕ
+opened-list c = c .before .before .before .before .before .open-all .last .0
+
+-- From a later place back to the one before the loop, and to the one where the arrivals of the moment are taken.
+abbrev began : tie.After-loop2 Inv-loop2 μ-loop2 Inv-loop μ-loop → tie.After-next-moment Inv-loop2 μ-loop2 Inv-loop μ-loop
+began c = c .before .before .before .before
+
+abbrev settled : tie.After-open-next Inv-loop2 μ-loop2 Inv-loop μ-loop → tie.After-loop2 Inv-loop2 μ-loop2 Inv-loop μ-loop
+settled c = c .before .before .before .before
+
 -- What is known when the loop begins.
-accepted : (c : tie.After-next-moment Inv-loop2 μ-loop2 Inv-loop μ-loop) → Accepted (c .before .before .before .before .before .before .before .before .before .before .before .args .file .now)
+accepted : (c : tie.After-next-moment Inv-loop2 μ-loop2 Inv-loop μ-loop) → Accepted (file c)
 accepted c = c .before .before .before .before .before .before .before .before .before .before .before .pre .0
 
-all-open : (c : tie.After-next-moment Inv-loop2 μ-loop2 Inv-loop μ-loop) → (c .before .before .before .before .before .open-all .last .0) ≡ finishList (work (c .before .before .before .before .before .before .before .before .before .before .before .args .file .now) .arrivals) (λ k. isOpen) (c .before .before .before .before .before .before .before .before .before .before .before .args .finishes .now)
-all-open c = c .before .before .before .before .before .open-all .ensures ∙ ap (λ (m : ℕ). finishList m (λ k. isOpen) (c .before .before .before .before .before .before .before .before .before .before .before .args .finishes .now)) (arrivals-read _ (c .before .before .before .before .before .before .before .header-of .ensures))
+all-open : (c : tie.After-next-moment Inv-loop2 μ-loop2 Inv-loop μ-loop) → (opened-list c) ≡ finishList (work (file c) .arrivals)
+    (λ k. isOpen) (ends c)
+all-open c = c .before .before .before .before .before .open-all .ensures ∙ ap (λ (m : ℕ). finishList m (λ k. isOpen) (ends c))
+    (arrivals-read _ (c .before .before .before .before .before .before .before .header-of .ensures))
 
-long : (c : tie.After-next-moment Inv-loop2 μ-loop2 Inv-loop μ-loop) → work (c .before .before .before .before .before .before .before .before .before .before .before .args .file .now) .arrivals ≤ length (c .before .before .before .before .before .open-all .last .0)
-long c = omega (arith, ap length (all-open c), finishes-length (work (c .before .before .before .before .before .before .before .before .before .before .before .args .file .now) .arrivals) (c .before .before .before .before .before .before .before .before .before .before .before .args .finishes .now) (λ k. isOpen), c .before .before .before .before .before .before .before .before .before .before .before .pre .1)
+long : (c : tie.After-next-moment Inv-loop2 μ-loop2 Inv-loop μ-loop) → work (file c) .arrivals ≤ length (opened-list c)
+long c = omega (
+  arith,
+  ap length (all-open c),
+  finishes-length (work (file c) .arrivals) (ends c) (λ k. isOpen),
+  c .before .before .before .before .before .before .before .before .before .before .before .pre .1,
+)
 
-fit : (c : tie.After-next-moment Inv-loop2 μ-loop2 Inv-loop μ-loop) → Fit (work (c .before .before .before .before .before .before .before .before .before .before .before .args .file .now)) (length (c .before .before .before .before .before .open-all .last .0))
-fit c = fit-beside (length (c .before .before .before .before .before .open-all .last .0)) (accepted c .fit) (long c)
+fit : (c : tie.After-next-moment Inv-loop2 μ-loop2 Inv-loop μ-loop) → Fit (work (file c)) (length (opened-list c))
+fit c = fit-beside (length (opened-list c)) (accepted c .fit) (long c)
 
-to-horizon : (c : tie.After-next-moment Inv-loop2 μ-loop2 Inv-loop μ-loop) → c .before .before .before .before .before .before .before .header-of .result .horizon .tick ≡ work (c .before .before .before .before .before .before .before .before .before .before .before .args .file .now) .horizon .tick
+to-horizon : (c : tie.After-next-moment Inv-loop2 μ-loop2 Inv-loop μ-loop) →
+    c .before .before .before .before .before .before .before .header-of .result .horizon .tick ≡ work (file c) .horizon .tick
 to-horizon c = horizon-read _ (c .before .before .before .before .before .before .before .header-of .ensures)
 
 loop-holds : tie.Need-loop-holds Inv-loop2 μ-loop2 Inv-loop μ-loop
 loop-holds c =
-    travels-start (c .before .before .before .before .before .before .before .before .before .before .before .args .list .now) (c .before .before .before .before .before .open-all .last .0) (fit c)
+    travels-start (lent c) (opened-list c) (fit c)
     (all-open c
-    ∙ sym (finishes-again (work (c .before .before .before .before .before .before .before .before .before .before .before .args .file .now) .arrivals) (λ k. isOpen) (λ k. isOpen) (c .before .before .before .before .before .before .before .before .before .before .before .args .finishes .now))
-    ∙ ap (finishList (work (c .before .before .before .before .before .before .before .before .before .before .before .args .file .now) .arrivals) (λ k. isOpen)) (sym (all-open c)))
+    ∙ sym (finishes-again (work (file c) .arrivals) (λ k. isOpen) (λ k. isOpen) (ends c))
+    ∙ ap (finishList (work (file c) .arrivals) (λ k. isOpen)) (sym (all-open c)))
     (c .before .before .start .ensures)
     (c .next-moment .ensures)
     (c .before .blank-records .ensures)
 
 loop2-holds : tie.Need-loop2-holds Inv-loop2 μ-loop2 Inv-loop μ-loop
-loop2-holds c = record { stands = c .before .loop .inv .stands; keyed = c .before .loop .inv .keyed; from = omega arith; next-is = c .before .loop .inv .next-is }
+loop2-holds c = record {
+  stands = c .before .loop .inv .stands;
+  keyed = c .before .loop .inv .keyed;
+  from = omega arith;
+  next-is =
+      c .before .loop .inv .next-is;
+}
 
 take-requires : tie.Need-take-requires Inv-loop2 μ-loop2 Inv-loop μ-loop
 take-requires c κs =
-    let end : c .before .before .before .before .loop .t ≤ clockEnd = omega (arith, c .before .before .before .loop-test .taken, to-horizon (c .before .before .before .before .before), fit (c .before .before .before .before .before) .horizon) in
-    let now = ap (λ (m : Moment). m .tick) (stands-clock (fit (c .before .before .before .before .before)) (c .before .before .loop2 .inv .stands) end) in (
+    let end : c .before .before .before .before .loop .t ≤ clockEnd = omega (
+      arith,
+      c .before .before .before .loop-test .taken,
+      to-horizon (c .before .before .before .before .before),
+      fit
+          (c .before .before .before .before .before) .horizon,
+    ) in
+    let now = ap (λ (m : Moment). m .tick)
+    (stands-clock (fit (c .before .before .before .before .before)) (c .before .before .loop2 .inv .stands) end) in (
       accepted (c .before .before .before .before .before),
       (
-        subst⁻¹ (λ (u : ℕ). Stands (work (c .before .before .before .before .before .before .before .before .before .before .before .before .before .before .before .before .args .file .now)) u (c .before .before .loop2 .j) (c .before .before .loop2 .d)) now (c .before .before .loop2 .inv .stands),
+        subst⁻¹ (λ (u : ℕ). Stands (work (file (c .before .before .before .before .before))) u (c .before .before .loop2 .j)
+            (c .before .before .loop2 .d)) now (c .before .before .loop2 .inv .stands),
         (
           c .before .before .loop2 .inv .keyed,
           omega arith,
@@ -108,69 +154,149 @@ take-requires c κs =
 next-moment-requires-2 : tie.Need-next-moment-requires-2 Inv-loop2 μ-loop2 Inv-loop μ-loop
 next-moment-requires-2 c κs = accepted (c .before .before .before .before .before .before .before)
 
-took : (c : tie.After-next-moment2 Inv-loop2 μ-loop2 Inv-loop μ-loop) → Took (work (c .before .before .before .before .before .before .before .before .before .before .before .before .before .before .before .before .before .before .before .args .file .now)) (c .before .before .before .before .before .before .before .loop .t) (c .before .before .take .last .1 .0) (c .before .before .take .result .dispatcher) (c .before .before .take .result .arrivals)
+took : (c : tie.After-next-moment2 Inv-loop2 μ-loop2 Inv-loop μ-loop) → Took
+    (work (file (c .before .before .before .before .before .before .before .before)))
+    (c .before .before .before .before .before .before .before .loop .t) (c .before .before .take .last .1 .0)
+    (c .before .before .take .result .dispatcher) (c .before .before .take .result .arrivals)
 took c =
-    let end : c .before .before .before .before .before .before .before .loop .t ≤ clockEnd = omega (arith, c .before .before .before .before .before .before .loop-test .taken, to-horizon (c .before .before .before .before .before .before .before .before), fit (c .before .before .before .before .before .before .before .before) .horizon) in
-    let now = ap (λ (m : Moment). m .tick) (stands-clock (fit (c .before .before .before .before .before .before .before .before)) (c .before .before .before .before .before .loop2 .inv .stands) end) in
-    subst (λ (u : ℕ). Took (work (c .before .before .before .before .before .before .before .before .before .before .before .before .before .before .before .before .before .before .before .args .file .now)) u (c .before .before .take .last .1 .0) (c .before .before .take .result .dispatcher) (c .before .before .take .result .arrivals)) now (c .before .before .take .ensures)
+    let end : c .before .before .before .before .before .before .before .loop .t ≤ clockEnd = omega (
+      arith,
+      c .before .before .before .before .before .before .loop-test .taken,
+      to-horizon
+          (c .before .before .before .before .before .before .before .before),
+      fit
+          (c .before .before .before .before .before .before .before .before) .horizon,
+    ) in
+    let now = ap (λ (m : Moment). m .tick)
+    (stands-clock (fit (c .before .before .before .before .before .before .before .before))
+    (c .before .before .before .before .before .loop2 .inv .stands) end) in
+    subst (λ (u : ℕ). Took (work (file (c .before .before .before .before .before .before .before .before))) u
+    (c .before .before .take .last .1 .0) (c .before .before .take .result .dispatcher)
+    (c .before .before .take .result .arrivals)) now (c .before .before .take .ensures)
 
-in-time : (c : tie.After-next-moment2 Inv-loop2 μ-loop2 Inv-loop μ-loop) → c .before .before .before .before .before .before .before .loop .t < work (c .before .before .before .before .before .before .before .before .before .before .before .before .before .before .before .before .before .before .before .args .file .now) .horizon .tick
-in-time c = omega (arith, c .before .before .before .before .before .before .loop-test .taken, to-horizon (c .before .before .before .before .before .before .before .before))
+in-time : (c : tie.After-next-moment2 Inv-loop2 μ-loop2 Inv-loop μ-loop) →
+    c .before .before .before .before .before .before .before .loop .t < work
+    (file (c .before .before .before .before .before .before .before .before)) .horizon .tick
+in-time c = omega (
+  arith,
+  c .before .before .before .before .before .before .loop-test .taken,
+  to-horizon
+      (c .before .before .before .before .before .before .before .before),
+)
 
 loop2-less : tie.Need-loop2-less Inv-loop2 μ-loop2 Inv-loop μ-loop
-loop2-less c = omega (arith, takes-more (c .before .before .before .before .before .loop2 .inv) (in-time c) (c .before .before .before .before .loop2-test .taken) (took c), took c .stands .count)
+loop2-less c = omega (
+  arith,
+  takes-more (c .before .before .before .before .before .loop2 .inv) (in-time c)
+      (c .before .before .before .before .loop2-test .taken) (took c),
+  took c .stands .count,
+)
 
 loop2-again : tie.Need-loop2-again Inv-loop2 μ-loop2 Inv-loop μ-loop
-loop2-again c = taking-more (c .before .before .before .before .before .loop2 .inv) (in-time c) (c .before .before .before .before .loop2-test .taken) (took c) _ (c .next-moment2 .ensures)
+loop2-again c = taking-more (c .before .before .before .before .before .loop2 .inv) (in-time c)
+    (c .before .before .before .before .loop2-test .taken) (took c) _ (c .next-moment2 .ensures)
 
 -- Once the arrivals of the moment are taken.
-going : (c : tie.After-loop2 Inv-loop2 μ-loop2 Inv-loop μ-loop) → Travels (work (c .before .before .before .before .before .before .before .before .before .before .before .before .before .before .before .args .file .now)) (c .before .before .before .before .before .before .before .before .before .before .before .before .before .before .before .args .list .now) (c .before .before .before .before .before .before .before .before .before .open-all .last .0) (c .before .before .before .loop .t) (c .before .loop2 .j) (c .before .loop2 .next) (c .before .loop2 .d) (c .before .loop2 .keys) (c .before .before .before .loop .job) (c .before .before .before .loop .left) (c .before .before .before .loop .postponed) (c .before .before .before .loop .interrupted) (c .before .before .before .loop .list) (c .before .before .before .loop .finishes) (c .before .before .before .loop .records) (c .before .before .before .loop .c)
-going c = travels-taking (fit (c .before .before .before .before)) (c .before .before .before .loop .inv) (c .before .loop2 .inv)
+going : (c : tie.After-loop2 Inv-loop2 μ-loop2 Inv-loop μ-loop) → Travels (work (file (began c))) (lent (began c))
+    (opened-list (began c)) (c .before .before .before .loop .t) (c .before .loop2 .j) (c .before .loop2 .next)
+    (c .before .loop2 .d) (c .before .loop2 .keys) (c .before .before .before .loop .job) (c .before .before .before .loop .left)
+    (c .before .before .before .loop .postponed) (c .before .before .before .loop .interrupted)
+    (c .before .before .before .loop .list) (c .before .before .before .loop .finishes) (c .before .before .before .loop .records)
+    (c .before .before .before .loop .c)
+going c = travels-taking (fit (began c)) (c .before .before .before .loop .inv) (c .before .loop2 .inv)
 
 before-horizon : (c : tie.After-loop2 Inv-loop2 μ-loop2 Inv-loop μ-loop) → (c .before .before .before .loop .t) < clockEnd
-before-horizon c = omega (arith, c .before .before .loop-test .taken, to-horizon (c .before .before .before .before), fit (c .before .before .before .before) .horizon)
+before-horizon c = omega (arith, c .before .before .loop-test .taken, to-horizon (began c), fit (began c) .horizon)
 
 array-read-key : tie.Need-array-read-key Inv-loop2 μ-loop2 Inv-loop μ-loop
 array-read-key c = search needs
 
 turn-to-requires : tie.Need-turn-to-requires Inv-loop2 μ-loop2 Inv-loop μ-loop
-turn-to-requires c κs = (started (fit (c .before .before .before .before .before .before .before)) (going (c .before .before .before)), (omega (arith, counted (fit (c .before .before .before .before .before .before .before)) (going (c .before .before .before)), before-horizon (c .before .before .before)), omega (arith, cut-few (fit (c .before .before .before .before .before .before .before)) (going (c .before .before .before)) (c .before .before .before .before .before .before .loop .c .server), before-horizon (c .before .before .before))))
+turn-to-requires c κs = (
+  started (fit (began (c .before .before .before))) (going (c .before .before .before)),
+  (
+    omega (
+      arith,
+      counted (fit (began (c .before .before .before))) (going (c .before .before .before)),
+      before-horizon
+          (c .before .before .before),
+    ),
+    omega (
+      arith,
+      cut-few (fit (began (c .before .before .before))) (going (c .before .before .before))
+          (c .before .before .before .before .before .before .loop .c .server),
+      before-horizon (c .before .before .before),
+    ),
+  ),
+)
 
 loop-less : tie.Need-loop-less Inv-loop2 μ-loop2 Inv-loop μ-loop
-loop-less c = omega (arith, c .before .before .before .before .before .before .loop2-test .left, c .before .before .before .before .before .before .before .before .loop-test .taken)
+loop-less c = omega (
+  arith,
+  c .before .before .before .before .before .before .loop2-test .left,
+  c .before .before .before .before .before .before .before .before .loop-test .taken,
+)
 
 loop-again : tie.Need-loop-again Inv-loop2 μ-loop2 Inv-loop μ-loop
 loop-again c =
-    idled-on (fit (c .before .before .before .before .before .before .before .before .before .before)) (going (c .before .before .before .before .before .before)) (c .before .before .before .before .before .before .loop2-test .left) (c .before .before .before .before .before .if1 .taken) (c .before .before .turn-to .ensures .0) (c .before .before .turn-to .ensures .1 .0)
+    idled-on (fit (began (c .before .before .before .before .before .before)))
+    (going (c .before .before .before .before .before .before))
+    (c .before .before .before .before .before .before .loop2-test .left)
+    (c .before .before .before .before .before .if1 .taken) (c .before .before .turn-to .ensures .0)
+    (c .before .before .turn-to .ensures .1 .0)
     (c .before .before .turn-to .ensures .1 .1)
 
 open-next-requires : tie.Need-open-next-requires Inv-loop2 μ-loop2 Inv-loop μ-loop
 open-next-requires c κs = (
-  accepted (c .before .before .before .before .before .before .before),
+  accepted (began (c .before .before .before)),
   (
-    picked-server (fit (c .before .before .before .before .before .before .before)) (going (c .before .before .before)) _ (c .before .before .if1 .left) refl,
-    served-premise (fit (c .before .before .before .before .before .before .before)) (going (c .before .before .before) .stands) (going (c .before .before .before) .jobs) (picked-server (fit (c .before .before .before .before .before .before .before)) (going (c .before .before .before)) _ (c .before .before .if1 .left) refl)
-        (picked-waits (fit (c .before .before .before .before .before .before .before)) (going (c .before .before .before)) _ (c .before .before .if1 .left) refl),
+    picked-server (fit (began (c .before .before .before))) (going (c .before .before .before)) _ (c .before .before .if1 .left)
+        refl,
+    served-premise (fit (began (c .before .before .before))) (going (c .before .before .before) .stands)
+        (going (c .before .before .before) .jobs)
+        (picked-server (fit (began (c .before .before .before))) (going (c .before .before .before)) _
+        (c .before .before .if1 .left) refl)
+        (picked-waits (fit (began (c .before .before .before))) (going (c .before .before .before)) _ (c .before .before .if1 .left)
+        refl),
   ),
 )
 
-opened : (c : tie.After-open-next Inv-loop2 μ-loop2 Inv-loop μ-loop) → Jobs (work (c .before .before .before .before .before .before .before .before .before .before .before .before .before .before .before .before .before .before .before .args .file .now)) (c .before .before .before .before .before .before .before .loop .t) (c .before .before .before .before .before .loop2 .j) (c .open-next .last .1 .0) (c .open-next .last .1 .1 .0) × (0 < getD (c .open-next .last .1 .1 .0) (getD (c .before .before .before .before .before .loop2 .keys) 1 0 % 64) 0)
-opened c = opened-jobs (fit (c .before .before .before .before .before .before .before .before)) (going (c .before .before .before .before) .stands) (going (c .before .before .before .before) .jobs) (picked-server (fit (c .before .before .before .before .before .before .before .before)) (going (c .before .before .before .before)) _ (c .before .before .before .if1 .left) refl) (picked-waits (fit (c .before .before .before .before .before .before .before .before)) (going (c .before .before .before .before)) _ (c .before .before .before .if1 .left) refl) (c .open-next .ensures)
+opened : (c : tie.After-open-next Inv-loop2 μ-loop2 Inv-loop μ-loop) → Jobs (work (file (began (settled c))))
+    ((settled c) .before .before .before .loop .t) ((settled c) .before .loop2 .j) (c .open-next .last .1 .0)
+    (c .open-next .last .1 .1 .0) × (0 < getD (c .open-next .last .1 .1 .0) (getD ((settled c) .before .loop2 .keys) 1 0 % 64) 0)
+opened c = opened-jobs (fit (began (settled c))) (going (settled c) .stands) (going (settled c) .jobs)
+    (picked-server (fit (began (settled c))) (going (settled c)) _ (c .before .before .before .if1 .left) refl)
+    (picked-waits (fit (began (settled c))) (going (settled c)) _ (c .before .before .before .if1 .left) refl)
+    (c .open-next .ensures)
 
-here : (c : tie.After-open-next Inv-loop2 μ-loop2 Inv-loop μ-loop) → (getD (c .before .before .before .before .before .loop2 .keys) 1 0 % 64) < 64
-here c = picked-server (fit (c .before .before .before .before .before .before .before .before)) (going (c .before .before .before .before)) _ (c .before .before .before .if1 .left) refl
+here : (c : tie.After-open-next Inv-loop2 μ-loop2 Inv-loop μ-loop) → (getD ((settled c) .before .loop2 .keys) 1 0 % 64) < 64
+here c = picked-server (fit (began (settled c))) (going (settled c)) _ (c .before .before .before .if1 .left) refl
 
-waiting : (c : tie.After-open-next Inv-loop2 μ-loop2 Inv-loop μ-loop) → getD (c .open-next .last .1 .1 .0) (getD (c .before .before .before .before .before .loop2 .keys) 1 0 % 64) 0 ≤ serverAt (c .before .before .before .before .before .loop2 .d) (getD (c .before .before .before .before .before .loop2 .keys) 1 0 % 64) .waiting .ticks
-waiting c = job-waiting (opened c .0 .each _ (here c)) (opened c .1) (going (c .before .before .before .before) .stands .adds _)
+waiting : (c : tie.After-open-next Inv-loop2 μ-loop2 Inv-loop μ-loop) → getD (c .open-next .last .1 .1 .0)
+    (getD ((settled c) .before .loop2 .keys) 1 0 % 64) 0 ≤ serverAt ((settled c) .before .loop2 .d)
+    (getD ((settled c) .before .loop2 .keys) 1 0 % 64) .waiting .ticks
+waiting c = job-waiting (opened c .0 .each _ (here c)) (opened c .1) (going (settled c) .stands .adds _)
 
-ahead : (c : tie.After-open-next Inv-loop2 μ-loop2 Inv-loop μ-loop) → (c .before .before .before .before .before .before .before .loop .t) < (c .before .before .before .before .before .loop2 .next)
+ahead : (c : tie.After-open-next Inv-loop2 μ-loop2 Inv-loop μ-loop) → ((settled c) .before .before .before .loop .t) <
+    ((settled c) .before .loop2 .next)
 ahead c = c .before .before .before .before .loop2-test .left
 
-until-end : (c : tie.After-open-next Inv-loop2 μ-loop2 Inv-loop μ-loop) → (c .before .before .before .before .before .loop2 .next) ≤ clockEnd
-until-end c = omega (arith, next-horizon-le (fit (c .before .before .before .before .before .before .before .before)) (going (c .before .before .before .before)) (ahead c), fit (c .before .before .before .before .before .before .before .before) .horizon)
+until-end : (c : tie.After-open-next Inv-loop2 μ-loop2 Inv-loop μ-loop) → ((settled c) .before .loop2 .next) ≤ clockEnd
+until-end c = omega (
+  arith,
+  next-horizon-le (fit (began (settled c))) (going (settled c)) (ahead c),
+  fit
+      (began (settled c)) .horizon,
+)
 
-clock-early : (c : tie.After-open-next Inv-loop2 μ-loop2 Inv-loop μ-loop) → (c .before .before .before .before .before .loop2 .d) .clock .tick < clockEnd
-clock-early c = omega (arith, ap (λ (m : Moment). m .tick) (stands-clock (fit (c .before .before .before .before .before .before .before .before)) (going (c .before .before .before .before) .stands) (before-end (fit (c .before .before .before .before .before .before .before .before)) (going (c .before .before .before .before)))), before-horizon (c .before .before .before .before))
+clock-early : (c : tie.After-open-next Inv-loop2 μ-loop2 Inv-loop μ-loop) → ((settled c) .before .loop2 .d) .clock .tick < clockEnd
+clock-early c = omega (
+  arith,
+  ap (λ (m : Moment). m .tick)
+      (stands-clock (fit (began (settled c))) (going (settled c) .stands)
+      (before-end (fit (began (settled c))) (going (settled c)))),
+  before-horizon (settled c),
+)
 
 mul-s : tie.Need-mul-s Inv-loop2 μ-loop2 Inv-loop μ-loop
 mul-s c = omega (arith, here c)
@@ -191,17 +317,20 @@ plan-requires : tie.Need-plan-requires Inv-loop2 μ-loop2 Inv-loop μ-loop
 plan-requires c κs = (
   here (c .before .before),
   (
-    going (c .before .before .before .before .before .before) .keyed .winners,
+    going (settled (c .before .before)) .keyed .winners,
     (
-      ranged-able (picked-ranged (fit (c .before .before .before .before .before .before .before .before .before .before)) (going (c .before .before .before .before .before .before)) _ (c .before .before .before .before .before .if1 .left) refl) (clock-early (c .before .before)),
+      ranged-able (picked-ranged (fit (began (settled (c .before .before)))) (going (settled (c .before .before))) _
+          (c .before .before .before .before .before .if1 .left) refl) (clock-early (c .before .before)),
       (
-        ranged-early (picked-ranged (fit (c .before .before .before .before .before .before .before .before .before .before)) (going (c .before .before .before .before .before .before)) _ (c .before .before .before .before .before .if1 .left) refl) (clock-early (c .before .before)),
+        ranged-early (picked-ranged (fit (began (settled (c .before .before)))) (going (settled (c .before .before))) _
+            (c .before .before .before .before .before .if1 .left) refl) (clock-early (c .before .before)),
         (
           opened (c .before .before) .1,
           (
             waiting (c .before .before),
             (
-              picked-charged (fit (c .before .before .before .before .before .before .before .before .before .before)) (going (c .before .before .before .before .before .before)) _ (c .before .before .before .before .before .if1 .left) refl,
+              picked-charged (fit (began (settled (c .before .before)))) (going (settled (c .before .before))) _
+                  (c .before .before .before .before .before .if1 .left) refl,
               (
                 omega (arith, ahead (c .before .before)),
                 omega (arith, until-end (c .before .before)),
@@ -218,16 +347,30 @@ pass-through-requires : tie.Need-pass-through-requires Inv-loop2 μ-loop2 Inv-lo
 pass-through-requires c κs = (
   c .before .before .before .plan .ensures .able,
   (
-    omega (arith, c .before .before .before .plan .ensures .gone-after, c .before .before .before .plan .ensures .gone-room, until-end (c .before .before .before .before .before .before), ahead (c .before .before .before .before .before .before)),
+    omega (
+      arith,
+      c .before .before .before .plan .ensures .gone-after,
+      c .before .before .before .plan .ensures .gone-room,
+      until-end (c .before .before .before .before .before .before),
+      ahead (c .before .before .before .before .before .before),
+    ),
     (
       c .before .before .before .plan .ensures .works,
       (
-        started (fit (c .before .before .before .before .before .before .before .before .before .before .before .before .before .before)) (going (c .before .before .before .before .before .before .before .before .before .before)),
+        started (fit (began (settled (c .before .before .before .before .before .before))))
+            (going (settled (c .before .before .before .before .before .before))),
         (
-          omega (arith, counted (fit (c .before .before .before .before .before .before .before .before .before .before .before .before .before .before)) (going (c .before .before .before .before .before .before .before .before .before .before)), before-horizon (c .before .before .before .before .before .before .before .before .before .before)),
+          omega (
+            arith,
+            counted (fit (began (settled (c .before .before .before .before .before .before))))
+                (going (settled (c .before .before .before .before .before .before))),
+            before-horizon
+                (settled (c .before .before .before .before .before .before)),
+          ),
           (
-            cut-few (fit (c .before .before .before .before .before .before .before .before .before .before .before .before .before .before)) (going (c .before .before .before .before .before .before .before .before .before .before)),
-            before-horizon (c .before .before .before .before .before .before .before .before .before .before),
+            cut-few (fit (began (settled (c .before .before .before .before .before .before))))
+                (going (settled (c .before .before .before .before .before .before))),
+            before-horizon (settled (c .before .before .before .before .before .before)),
           ),
         ),
       ),
@@ -236,7 +379,11 @@ pass-through-requires c κs = (
 )
 
 set-key-requires : tie.Need-set-key-requires Inv-loop2 μ-loop2 Inv-loop μ-loop
-set-key-requires c κs = (here (c .before .before .before .before .before .before .before .before .before .before), going (c .before .before .before .before .before .before .before .before .before .before .before .before .before .before) .keyed .winners)
+set-key-requires c κs = (
+  here (c .before .before .before .before .before .before .before .before .before .before),
+  going
+      (settled (c .before .before .before .before .before .before .before .before .before .before)) .keyed .winners,
+)
 
 mul-postponed : tie.Need-mul-postponed Inv-loop2 μ-loop2 Inv-loop μ-loop
 mul-postponed c = omega (arith, here (c .before .before .before .before .before .before .before .before .before .before .before))
@@ -245,7 +392,21 @@ array-read-postponed : tie.Need-array-read-postponed Inv-loop2 μ-loop2 Inv-loop
 array-read-postponed c = here (c .before .before .before .before .before .before .before .before .before .before .before)
 
 add-postponed : tie.Need-add-postponed Inv-loop2 μ-loop2 Inv-loop μ-loop
-add-postponed c = omega (arith, postponed-few (fit (c .before .before .before .before .before .before .before .before .before .before .before .before .before .before .before .before .before .before .before .before)) (going (c .before .before .before .before .before .before .before .before .before .before .before .before .before .before .before .before)) _ (here (c .before .before .before .before .before .before .before .before .before .before .before .before)), planned-few (c .before .before .before .before .before .before .before .before .before .plan .ensures) (picked-ranged (fit (c .before .before .before .before .before .before .before .before .before .before .before .before .before .before .before .before .before .before .before .before)) (going (c .before .before .before .before .before .before .before .before .before .before .before .before .before .before .before .before)) _ (c .before .before .before .before .before .before .before .before .before .before .before .before .before .before .before .if1 .left) refl .budget), until-end (c .before .before .before .before .before .before .before .before .before .before .before .before), before-horizon (c .before .before .before .before .before .before .before .before .before .before .before .before .before .before .before .before))
+add-postponed c = omega (
+  arith,
+  postponed-few
+      (fit (began (settled (c .before .before .before .before .before .before .before .before .before .before .before .before))))
+      (going (settled (c .before .before .before .before .before .before .before .before .before .before .before .before))) _
+      (here (c .before .before .before .before .before .before .before .before .before .before .before .before)),
+  planned-few
+      (c .before .before .before .before .before .before .before .before .before .plan .ensures)
+      (picked-ranged (fit (began
+      (settled (c .before .before .before .before .before .before .before .before .before .before .before .before))))
+      (going (settled (c .before .before .before .before .before .before .before .before .before .before .before .before))) _
+      (c .before .before .before .before .before .before .before .before .before .before .before .before .before .before .before .if1 .left) refl .budget),
+  until-end (c .before .before .before .before .before .before .before .before .before .before .before .before),
+  before-horizon (settled (c .before .before .before .before .before .before .before .before .before .before .before .before)),
+)
 
 array-write-postponed : tie.Need-array-write-postponed Inv-loop2 μ-loop2 Inv-loop μ-loop
 array-write-postponed c = here (c .before .before .before .before .before .before .before .before .before .before .before .before)
@@ -266,28 +427,63 @@ element-set-from-last : tie.Need-element-set-from-last Inv-loop2 μ-loop2 Inv-lo
 element-set-from-last c = here (c .before .before .before .before .before .before .before .before .before .before .before .before)
 
 add-t : tie.Need-add-t Inv-loop2 μ-loop2 Inv-loop μ-loop
-add-t c = omega (arith, c .before .before .before .before .before .before .before .before .before .plan .ensures .gone-room, until-end (c .before .before .before .before .before .before .before .before .before .before .before .before), before-horizon (c .before .before .before .before .before .before .before .before .before .before .before .before .before .before .before .before))
+add-t c = omega (
+  arith,
+  c .before .before .before .before .before .before .before .before .before .plan .ensures .gone-room,
+  until-end (c .before .before .before .before .before .before .before .before .before .before .before .before),
+  before-horizon
+      (settled (c .before .before .before .before .before .before .before .before .before .before .before .before)),
+)
 
 mul-ended : tie.Need-mul-ended Inv-loop2 μ-loop2 Inv-loop μ-loop
-mul-ended c = omega (arith, here (c .before .before .before .before .before .before .before .before .before .before .before .before .before))
+mul-ended c = omega (
+  arith,
+  here
+      (c .before .before .before .before .before .before .before .before .before .before .before .before .before),
+)
 
 array-read-ended : tie.Need-array-read-ended Inv-loop2 μ-loop2 Inv-loop μ-loop
-array-read-ended c = here (c .before .before .before .before .before .before .before .before .before .before .before .before .before)
+array-read-ended c = here
+    (c .before .before .before .before .before .before .before .before .before .before .before .before .before)
 
 end-job-requires : tie.Need-end-job-requires Inv-loop2 μ-loop2 Inv-loop μ-loop
 end-job-requires c κs = (
-  accepted (c .before .before .before .before .before .before .before .before .before .before .before .before .before .before .before .before .before .before .before .before .before .before),
+  accepted (began (settled
+      (c .before .before .before .before .before .before .before .before .before .before .before .before .before .before))),
   (
-    omega (arith, opened (c .before .before .before .before .before .before .before .before .before .before .before .before .before .before) .0 .each _ (here (c .before .before .before .before .before .before .before .before .before .before .before .before .before .before)) .taken (opened (c .before .before .before .before .before .before .before .before .before .before .before .before .before .before) .1), going (c .before .before .before .before .before .before .before .before .before .before .before .before .before .before .before .before .before .before) .stands .count),
+    omega (
+      arith,
+      opened
+          (c .before .before .before .before .before .before .before .before .before .before .before .before .before .before) .0 .each _ (here (c .before .before .before .before .before .before .before .before .before .before .before .before .before .before)) .taken (opened (c .before .before .before .before .before .before .before .before .before .before .before .before .before .before) .1),
+      going (settled (c .before .before .before .before .before .before .before .before .before .before .before .before .before .before)) .stands .count,
+    ),
     (
-      omega (arith, opened (c .before .before .before .before .before .before .before .before .before .before .before .before .before .before) .0 .each _ (here (c .before .before .before .before .before .before .before .before .before .before .before .before .before .before)) .taken (opened (c .before .before .before .before .before .before .before .before .before .before .before .before .before .before) .1), going (c .before .before .before .before .before .before .before .before .before .before .before .before .before .before .before .before .before .before) .stands .count, finishes-long (fit (c .before .before .before .before .before .before .before .before .before .before .before .before .before .before .before .before .before .before .before .before .before .before)) (going (c .before .before .before .before .before .before .before .before .before .before .before .before .before .before .before .before .before .before)), long (c .before .before .before .before .before .before .before .before .before .before .before .before .before .before .before .before .before .before .before .before .before .before)),
+      omega (
+        arith,
+        opened
+            (c .before .before .before .before .before .before .before .before .before .before .before .before .before .before) .0 .each _ (here (c .before .before .before .before .before .before .before .before .before .before .before .before .before .before)) .taken (opened (c .before .before .before .before .before .before .before .before .before .before .before .before .before .before) .1),
+        going (settled (c .before .before .before .before .before .before .before .before .before .before .before .before .before .before)) .stands .count,
+        finishes-long (fit (began (settled (c .before .before .before .before .before .before .before .before .before .before .before .before .before .before)))) (going (settled (c .before .before .before .before .before .before .before .before .before .before .before .before .before .before))),
+        long (began (settled (c .before .before .before .before .before .before .before .before .before .before .before .before .before .before))),
+      ),
       (
         here (c .before .before .before .before .before .before .before .before .before .before .before .before .before .before),
         (
           omega (arith, c .before .before .before .before .before .before .before .before .before .before .before .plan .ensures .gone-room, until-end (c .before .before .before .before .before .before .before .before .before .before .before .before .before .before), ahead (c .before .before .before .before .before .before .before .before .before .before .before .before .before .before)),
           (
-            omega (arith, finished-few (fit (c .before .before .before .before .before .before .before .before .before .before .before .before .before .before .before .before .before .before .before .before .before .before)) (going (c .before .before .before .before .before .before .before .before .before .before .before .before .before .before .before .before .before .before)) _ (here (c .before .before .before .before .before .before .before .before .before .before .before .before .before .before))),
-            omega (arith, total-few (fit (c .before .before .before .before .before .before .before .before .before .before .before .before .before .before .before .before .before .before .before .before .before .before)) (going (c .before .before .before .before .before .before .before .before .before .before .before .before .before .before .before .before .before .before)) _ (here (c .before .before .before .before .before .before .before .before .before .before .before .before .before .before)), c .before .before .before .before .before .before .before .before .before .before .before .plan .ensures .gone-room, until-end (c .before .before .before .before .before .before .before .before .before .before .before .before .before .before), ahead (c .before .before .before .before .before .before .before .before .before .before .before .before .before .before)),
+            omega (
+              arith,
+              finished-few
+                  (fit (began (settled (c .before .before .before .before .before .before .before .before .before .before .before .before .before .before)))) (going (settled (c .before .before .before .before .before .before .before .before .before .before .before .before .before .before))) _ (here (c .before .before .before .before .before .before .before .before .before .before .before .before .before .before)),
+            ),
+            omega (
+              arith,
+              total-few
+                  (fit (began (settled (c .before .before .before .before .before .before .before .before .before .before .before .before .before .before)))) (going (settled (c .before .before .before .before .before .before .before .before .before .before .before .before .before .before))) _ (here (c .before .before .before .before .before .before .before .before .before .before .before .before .before .before)),
+              c .before .before .before .before .before .before .before .before .before .before .before .plan .ensures .gone-room,
+              until-end (c .before .before .before .before .before .before .before .before .before .before .before .before .before .before),
+              ahead (c .before .before .before .before .before .before .before .before .before .before .before .before .before .before),
+            ),
           ),
         ),
       ),
@@ -296,34 +492,55 @@ end-job-requires c κs = (
 )
 
 add-job : tie.Need-add-job Inv-loop2 μ-loop2 Inv-loop μ-loop
-add-job c = omega (arith, opened (c .before .before .before .before .before .before .before .before .before .before .before .before .before .before .before .before .before) .0 .each _ (here (c .before .before .before .before .before .before .before .before .before .before .before .before .before .before .before .before .before)) .taken (opened (c .before .before .before .before .before .before .before .before .before .before .before .before .before .before .before .before .before) .1), going (c .before .before .before .before .before .before .before .before .before .before .before .before .before .before .before .before .before .before .before .before .before) .stands .count, fit (c .before .before .before .before .before .before .before .before .before .before .before .before .before .before .before .before .before .before .before .before .before .before .before .before .before) .arrivals)
+add-job c = omega (
+  arith,
+  opened
+      (c .before .before .before .before .before .before .before .before .before .before .before .before .before .before .before .before .before) .0 .each _ (here (c .before .before .before .before .before .before .before .before .before .before .before .before .before .before .before .before .before)) .taken (opened (c .before .before .before .before .before .before .before .before .before .before .before .before .before .before .before .before .before) .1),
+  going (settled (c .before .before .before .before .before .before .before .before .before .before .before .before .before .before .before .before .before)) .stands .count,
+  fit (began (settled (c .before .before .before .before .before .before .before .before .before .before .before .before .before .before .before .before .before))) .arrivals,
+)
 
 mul-job : tie.Need-mul-job Inv-loop2 μ-loop2 Inv-loop μ-loop
-mul-job c = omega (arith, here (c .before .before .before .before .before .before .before .before .before .before .before .before .before .before .before .before .before))
+mul-job c = omega (
+  arith,
+  here
+      (c .before .before .before .before .before .before .before .before .before .before .before .before .before .before .before .before .before),
+)
 
 array-write-job : tie.Need-array-write-job Inv-loop2 μ-loop2 Inv-loop μ-loop
-array-write-job c = here (c .before .before .before .before .before .before .before .before .before .before .before .before .before .before .before .before .before)
+array-write-job c = here
+    (c .before .before .before .before .before .before .before .before .before .before .before .before .before .before .before .before .before)
 
 loop-less-2 : tie.Need-loop-less-2 Inv-loop2 μ-loop2 Inv-loop μ-loop
-loop-less-2 c = omega (arith, c .before .before .before .before .before .before .before .before .before .before .before .before .before .before .plan .ensures .some, c .before .before .before .before .before .before .before .before .before .before .before .before .before .before .plan .ensures .gone-is, c .before .before .before .before .before .before .before .before .before .before .before .before .before .before .before .before .before .before .before .before .before .before .before .loop-test .taken)
+loop-less-2 c = omega
+    (arith, c .before .before .before .before .before .before .before .before .before .before .before .before .before .before .plan .ensures .some, c .before .before .before .before .before .before .before .before .before .before .before .before .before .before .plan .ensures .gone-is, c .before .before .before .before .before .before .before .before .before .before .before .before .before .before .before .before .before .before .before .before .before .before .before .loop-test .taken)
 
 loop-again-2 : tie.Need-loop-again-2 Inv-loop2 μ-loop2 Inv-loop μ-loop
 loop-again-2 c =
     travels-with (c .before .before .end-job .ensures .0) (c .before .before .end-job .ensures .1)
-    (spell-ended (fit (c .before .before .before .before .before .before .before .before .before .before .before .before .before .before .before .before .before .before .before .before .before .before .before .before .before)) (going (c .before .before .before .before .before .before .before .before .before .before .before .before .before .before .before .before .before .before .before .before .before)) (ahead (c .before .before .before .before .before .before .before .before .before .before .before .before .before .before .before .before .before)) _ (here (c .before .before .before .before .before .before .before .before .before .before .before .before .before .before .before .before .before)) (c .before .before .before .before .before .before .before .before .before .before .before .before .before .before .before .before .before .before .before .before .if1 .left) refl (opened (c .before .before .before .before .before .before .before .before .before .before .before .before .before .before .before .before .before) .0) (opened (c .before .before .before .before .before .before .before .before .before .before .before .before .before .before .before .before .before) .1)
+    (spell-ended (fit (began
+    (settled (c .before .before .before .before .before .before .before .before .before .before .before .before .before .before .before .before .before)))) (going (settled (c .before .before .before .before .before .before .before .before .before .before .before .before .before .before .before .before .before))) (ahead (c .before .before .before .before .before .before .before .before .before .before .before .before .before .before .before .before .before)) _ (here (c .before .before .before .before .before .before .before .before .before .before .before .before .before .before .before .before .before)) (c .before .before .before .before .before .before .before .before .before .before .before .before .before .before .before .before .before .before .before .before .if1 .left) refl (opened (c .before .before .before .before .before .before .before .before .before .before .before .before .before .before .before .before .before) .0) (opened (c .before .before .before .before .before .before .before .before .before .before .before .before .before .before .before .before .before) .1)
     (c .before .before .before .before .before .before .before .before .before .before .before .before .before .before .plan .ensures)
     (c .before .before .before .before .before .before .set-key .ensures)
     (c .before .before .before .before .before .before .before .before .before .before .pass-through .ensures .0)
     (c .before .before .before .before .before .before .before .before .before .before .pass-through .ensures .1 .0)
     (c .before .before .before .before .before .before .before .before .before .before .pass-through .ensures .1 .1)
-    (long (c .before .before .before .before .before .before .before .before .before .before .before .before .before .before .before .before .before .before .before .before .before .before .before .before .before)) (c .before .before .before .before .if2 .taken))
+    (long (began (settled
+    (c .before .before .before .before .before .before .before .before .before .before .before .before .before .before .before .before .before)))) (c .before .before .before .before .if2 .taken))
 
 loop-less-3 : tie.Need-loop-less-3 Inv-loop2 μ-loop2 Inv-loop μ-loop
-loop-less-3 c = omega (arith, c .before .before .before .before .before .before .before .before .before .before .plan .ensures .some, c .before .before .before .before .before .before .before .before .before .before .plan .ensures .gone-is, c .before .before .before .before .before .before .before .before .before .before .before .before .before .before .before .before .before .before .before .loop-test .taken)
+loop-less-3 c = omega (
+  arith,
+  c .before .before .before .before .before .before .before .before .before .before .plan .ensures .some,
+  c .before .before .before .before .before .before .before .before .before .before .plan .ensures .gone-is,
+  c .before .before .before .before .before .before .before .before .before .before .before .before .before .before .before .before .before .before .before .loop-test .taken,
+)
 
 loop-again-3 : tie.Need-loop-again-3 Inv-loop2 μ-loop2 Inv-loop μ-loop
 loop-again-3 c =
-    spell-ran (fit (c .before .before .before .before .before .before .before .before .before .before .before .before .before .before .before .before .before .before .before .before .before)) (going (c .before .before .before .before .before .before .before .before .before .before .before .before .before .before .before .before .before)) (ahead (c .before .before .before .before .before .before .before .before .before .before .before .before .before)) _ (here (c .before .before .before .before .before .before .before .before .before .before .before .before .before)) (c .before .before .before .before .before .before .before .before .before .before .before .before .before .before .before .before .if1 .left) refl (opened (c .before .before .before .before .before .before .before .before .before .before .before .before .before) .0) (opened (c .before .before .before .before .before .before .before .before .before .before .before .before .before) .1)
+    spell-ran (fit (began
+    (settled (c .before .before .before .before .before .before .before .before .before .before .before .before .before))))
+    (going (settled (c .before .before .before .before .before .before .before .before .before .before .before .before .before))) (ahead (c .before .before .before .before .before .before .before .before .before .before .before .before .before)) _ (here (c .before .before .before .before .before .before .before .before .before .before .before .before .before)) (c .before .before .before .before .before .before .before .before .before .before .before .before .before .before .before .before .if1 .left) refl (opened (c .before .before .before .before .before .before .before .before .before .before .before .before .before) .0) (opened (c .before .before .before .before .before .before .before .before .before .before .before .before .before) .1)
     (c .before .before .before .before .before .before .before .before .before .before .plan .ensures)
     (c .before .before .set-key .ensures)
     (c .before .before .before .before .before .before .pass-through .ensures .0)
@@ -332,34 +549,70 @@ loop-again-3 c =
     (c .if2 .left)
 
 end-segment-requires : tie.Need-end-segment-requires Inv-loop2 μ-loop2 Inv-loop μ-loop
-end-segment-requires c κs = (started (fit (c .before .before .before)) (c .before .before .loop .inv), omega (arith, counted (fit (c .before .before .before)) (c .before .before .loop .inv), before-end (fit (c .before .before .before)) (c .before .before .loop .inv)))
+end-segment-requires c κs = (
+  started (fit (c .before .before .before)) (c .before .before .loop .inv),
+  omega (
+    arith,
+    counted (fit (c .before .before .before)) (c .before .before .loop .inv),
+    before-end (fit (c .before .before .before))
+        (c .before .before .loop .inv),
+  ),
+)
 
 -- At the horizon.
-ended : (c : tie.After-slice-known7 Inv-loop2 μ-loop2 Inv-loop μ-loop) → work (c .before .before .before .before .before .before .before .before .before .before .before .before .before .before .before .before .before .args .file .now) .horizon .tick ≤ c .before .before .before .before .before .loop .t
-ended c = omega (arith, c .before .before .before .before .loop-test .left, to-horizon (c .before .before .before .before .before .before))
+ended : (c : tie.After-slice-known7 Inv-loop2 μ-loop2 Inv-loop μ-loop) → work
+    (file (c .before .before .before .before .before .before)) .horizon .tick ≤ c .before .before .before .before .before .loop .t
+ended c = omega (
+  arith,
+  c .before .before .before .before .loop-test .left,
+  to-horizon
+      (c .before .before .before .before .before .before),
+)
 
-listed : (c : tie.After-slice-known7 Inv-loop2 μ-loop2 Inv-loop μ-loop) → c .before .before .end-segment .last .0 ≡ written (trace (history (work (c .before .before .before .before .before .before .before .before .before .before .before .before .before .before .before .before .before .args .file .now))) (work (c .before .before .before .before .before .before .before .before .before .before .before .before .before .before .before .before .before .args .file .now) .horizon .tick)) (c .before .before .before .before .before .before .before .before .before .before .before .before .before .before .before .before .before .args .list .now)
-listed c = c .before .before .end-segment .ensures .1 ∙ list-whole (fit (c .before .before .before .before .before .before)) (c .before .before .before .before .before .loop .inv) (ended c)
+listed : (c : tie.After-slice-known7 Inv-loop2 μ-loop2 Inv-loop μ-loop) → c .before .before .end-segment .last .0 ≡ written
+    (trace (history (work (file (c .before .before .before .before .before .before))))
+    (work (file (c .before .before .before .before .before .before)) .horizon .tick))
+    (lent (c .before .before .before .before .before .before))
+listed c = c .before .before .end-segment .ensures .1 ∙ list-whole (fit (c .before .before .before .before .before .before))
+    (c .before .before .before .before .before .loop .inv) (ended c)
 
-finished : (c : tie.After-slice-known7 Inv-loop2 μ-loop2 Inv-loop μ-loop) → c .before .before .before .before .before .loop .finishes ≡ finishList (work (c .before .before .before .before .before .before .before .before .before .before .before .before .before .before .before .before .before .args .file .now) .arrivals) (finishes (work (c .before .before .before .before .before .before .before .before .before .before .before .before .before .before .before .before .before .args .file .now))) (c .before .before .before .before .before .before .before .before .before .before .before .before .before .before .before .before .before .args .finishes .now)
+finished : (c : tie.After-slice-known7 Inv-loop2 μ-loop2 Inv-loop μ-loop) →
+    c .before .before .before .before .before .loop .finishes ≡ finishList
+    (work (file (c .before .before .before .before .before .before)) .arrivals)
+    (finishes (work (file (c .before .before .before .before .before .before))))
+    (ends (c .before .before .before .before .before .before))
 finished c =
-    finishes-whole (fit (c .before .before .before .before .before .before)) (c .before .before .before .before .before .loop .inv) (ended c)
-    ∙ ap (finishList (work (c .before .before .before .before .before .before .before .before .before .before .before .before .before .before .before .before .before .args .file .now) .arrivals) (finishes (work (c .before .before .before .before .before .before .before .before .before .before .before .before .before .before .before .before .before .args .file .now)))) (all-open (c .before .before .before .before .before .before))
-    ∙ finishes-again (work (c .before .before .before .before .before .before .before .before .before .before .before .before .before .before .before .before .before .args .file .now) .arrivals) (finishes (work (c .before .before .before .before .before .before .before .before .before .before .before .before .before .before .before .before .before .args .file .now))) (λ k. isOpen) (c .before .before .before .before .before .before .before .before .before .before .before .before .before .before .before .before .before .args .finishes .now)
+    finishes-whole (fit (c .before .before .before .before .before .before))
+    (c .before .before .before .before .before .loop .inv) (ended c)
+    ∙ ap (finishList (work (file (c .before .before .before .before .before .before)) .arrivals)
+    (finishes (work (file (c .before .before .before .before .before .before)))))
+    (all-open (c .before .before .before .before .before .before))
+    ∙ finishes-again (work (file (c .before .before .before .before .before .before)) .arrivals)
+    (finishes (work (file (c .before .before .before .before .before .before)))) (λ k. isOpen)
+    (ends (c .before .before .before .before .before .before))
 
 same-length : tie.Need-same-length Inv-loop2 μ-loop2 Inv-loop μ-loop
-same-length c = ap length (listed c) ∙ written-length (trace (history (work (c .before .before .before .before .before .before .before .before .before .before .before .before .before .before .before .before .before .args .file .now))) (work (c .before .before .before .before .before .before .before .before .before .before .before .before .before .before .before .before .before .args .file .now) .horizon .tick)) (c .before .before .before .before .before .before .before .before .before .before .before .before .before .before .before .before .before .args .list .now)
+same-length c = ap length (listed c) ∙ written-length
+    (trace (history (work (file (c .before .before .before .before .before .before))))
+    (work (file (c .before .before .before .before .before .before)) .horizon .tick))
+    (lent (c .before .before .before .before .before .before))
 
 same-length-2 : tie.Need-same-length-2 Inv-loop2 μ-loop2 Inv-loop μ-loop
-same-length-2 c = ap length (finished c) ∙ finishes-length (work (c .before .before .before .before .before .before .before .before .before .before .before .before .before .before .before .before .before .args .file .now) .arrivals) (c .before .before .before .before .before .before .before .before .before .before .before .before .before .before .before .before .before .args .finishes .now) (finishes (work (c .before .before .before .before .before .before .before .before .before .before .before .before .before .before .before .before .before .args .file .now)))
+same-length-2 c = ap length (finished c) ∙ finishes-length
+    (work (file (c .before .before .before .before .before .before)) .arrivals)
+    (ends (c .before .before .before .before .before .before))
+    (finishes (work (file (c .before .before .before .before .before .before))))
 
 returns : tie.Need-returns Inv-loop2 μ-loop2 Inv-loop μ-loop
 returns c =
     record {
       list-is = listed c;
-      segments-is = c .before .before .end-segment .ensures .0 ∙ count-whole (fit (c .before .before .before .before .before .before)) (c .before .before .before .before .before .loop .inv) (ended c);
+      segments-is = c .before .before .end-segment .ensures .0 ∙ count-whole
+          (fit (c .before .before .before .before .before .before)) (c .before .before .before .before .before .loop .inv)
+          (ended c);
       finishes-is = finished c;
-      records-are = λ counts each. records-whole (fit (c .before .before .before .before .before .before)) (c .before .before .before .before .before .loop .inv) (ended c) each;
+      records-are = λ counts each. records-whole (fit (c .before .before .before .before .before .before))
+          (c .before .before .before .before .before .loop .inv) (ended c) each;
     }
 
 pub travel-spec : {M : Type 1} → statement M
