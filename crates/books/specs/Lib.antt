@@ -1,4 +1,5 @@
 pub mod Accepted
+pub mod AtLeastOne
 pub mod BudgetLaws
 pub mod Budgets
 pub mod Came

@@ -76,22 +76,32 @@ module _ (h : History) (i work : ℕ) where
       go (yes less) = finish-open u (omega arith) ∙ sym (finish-open t less)
       go (no more) = finish-stays t u (omega arith) le
 
-  -- "Zero is never a finish."
-  pub finish-not-zero : (N t : ℕ) → 0 < work → servedBy h i work N ≡ at t → 0 < t
+  -- what has finished at t has its work served by t
+  finish-served : (N t : ℕ) → servedBy h i work N ≡ at t → served h i t ≡ work
   unfolding servedBy firstServed
-  finish-not-zero N t some e = go (leb (first (suc N) reached) N) refl
+  finish-served N t e = go (leb (first (suc N) reached) N) refl
     where
-      at-zero : (f : ℕ) → reached f ≡ true → f ≡ t → 0 < t
-      at-zero zero passes q = let no : ⊥ = omega (arith, eqb-true (served h i 0) work passes, served-start h i) in absurd no
-      at-zero (suc f) passes q = omega arith
-
-      go : (b : Bool) → leb (first (suc N) reached) N ≡ b → 0 < t
+      go : (b : Bool) → leb (first (suc N) reached) N ≡ b → served h i t ≡ work
       go true l =
           let found : first (suc N) reached < suc N = omega (arith, leb-true (first (suc N) reached) N l) in
           let same : at (first (suc N) reached) ≡ at t = subst (λ (b : Bool). cond b (at (first (suc N) reached)) isOpen ≡ at t) l e in
-          at-zero (first (suc N) reached) (first-passes (suc N) reached found) (cc)
+          let moment : first (suc N) reached ≡ t = cc in
+          subst (λ (u : ℕ). served h i u ≡ work) moment
+          (eqb-true (served h i (first (suc N) reached)) work (first-passes (suc N) reached found))
       go false l =
           let never : isOpen ≡ at t = subst (λ (b : Bool). cond b (at (first (suc N) reached)) isOpen ≡ at t) l e in
           let none : _≡_ {A = ℕ} 0 1 = cc in
           let no : ⊥ = omega arith in
           absurd no
+
+  -- so it finishes after every moment by which less was served
+  pub finish-after : (N t u : ℕ) → servedBy h i work N ≡ at t → served h i u < work → u < t
+  finish-after N t u e less = go (decLt u t)
+    where
+      go : Dec (u < t) → u < t
+      go (yes l) = l
+      go (no l) = let no : ⊥ = omega (arith, finish-served N t e, served-to t u (omega arith)) in absurd no
+
+  -- "Zero is never a finish."
+  pub finish-not-zero : (N t : ℕ) → 0 < work → servedBy h i work N ≡ at t → 0 < t
+  finish-not-zero N t some e = finish-after N t 0 e (omega (arith, served-start h i))
