@@ -74,7 +74,7 @@ left-works ticks within work few = omega arith
 -- The ticks of a spell, the server after them, and what is left of job and time.
 module _ {s : Server} {rest room ticks spare : ℕ} {after : Server} (able : Able s) (early : s .deadline .tick ≤ mostFrame * clockEnd)
     (work : rest ≤ s .waiting .ticks) (time : room ≤ clockEnd) (ticks-is : ticks ≡ min (min (s .remaining .ticks) rest) room)
-    (after-is : after ≡ servedFor s ticks) (spare-is : spare ≡ min (min (rest - ticks) (room - ticks)) rest) where
+    (after-is : after ≡ servedFor s ticks) (spare-is : spare ≡ min (rest - ticks) (room - ticks)) where
   pub after-able : Able after
   after-able = subst⁻¹ Able after-is (served-able s ticks able early)
 

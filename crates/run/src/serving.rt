@@ -48,12 +48,15 @@ pub(crate) fn key_of(s: Server, i: usize) -> u64
 pub(crate) fn least(a: u64, b: u64, c: u64) -> u64
     ensures { λ r. ⌜ r ≡ min (min a b) c ⌝ }
 {
-    let mut r = a;
-    if b < r {
-        r = b;
+    lesser(lesser(a, b), c)
+}
+
+// The lesser of two numbers.
+pub(crate) fn lesser(a: u64, b: u64) -> u64
+    ensures { λ r. ⌜ r ≡ min a b ⌝ }
+{
+    if a < b {
+        return a;
     }
-    if c < r {
-        r = c;
-    }
-    r
+    b
 }

@@ -44,7 +44,7 @@ pub(crate) fn plan(keys: &[u64; 128], i: usize, s: Server, rest: u64, room: u64)
     let budget = s.budget.ticks;
     let ticks = serving::least(remaining, rest, room);
     let after = serving::serve(s, ticks);
-    let spare = serving::least(rest - ticks, room - ticks, rest);
+    let spare = serving::lesser(rest - ticks, room - ticks);
     let budgets = budgets::further(keys, i, after, spare);
     let last = budgets::budgets_on(after, budgets);
     let key = serving::key_of(last, i);

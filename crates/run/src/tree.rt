@@ -1,8 +1,9 @@
 // A winner tree over the keys of 64 servers: the keys stand at places 64 to 127, each place p from 1 to 63 holds the lesser of those
 // at 2p and 2p + 1, and place 0 is unused. So place 1 holds the least key, and a changed key changes only what stands above it.
-ghost use Prim.Native.Nat.{_<_, min};
+ghost use Prim.Native.Nat.{_<_};
 ghost use mathlib.Core.Path.{_≡_};
 ghost use Rattle.books.specs.Winners.{Winners, Beside, Set, Rival};
+use crate::serving::lesser;
 
 // Sets the key of server i. Where a place above it already holds its lesser, nothing further up changes.
 pub(crate) fn set_key(tree: &mut [u64; 128], i: usize, key: u64)
@@ -46,13 +47,4 @@ fn sibling(at: usize) -> usize
     ensures { λ r. ⌜ Beside at r ⌝ }
 {
     4 * (at / 2) + 1 - at
-}
-
-fn lesser(a: u64, b: u64) -> u64
-    ensures { λ r. ⌜ r ≡ min a b ⌝ }
-{
-    if a < b {
-        return a;
-    }
-    b
 }

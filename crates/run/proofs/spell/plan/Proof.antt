@@ -14,14 +14,14 @@ least-requires c κs = search needs
 serve-requires : tie.Need-serve-requires
 serve-requires c κs = search needs
 
-sub-least : tie.Need-sub-least
-sub-least c = search needs
+sub-lesser : tie.Need-sub-lesser
+sub-lesser c = search needs
 
-sub-least-2 : tie.Need-sub-least-2
-sub-least-2 c = search needs
+sub-lesser-2 : tie.Need-sub-lesser-2
+sub-lesser-2 c = search needs
 
-least-requires-2 : tie.Need-least-requires-2
-least-requires-2 c κs = search needs
+lesser-requires : tie.Need-lesser-requires
+lesser-requires c κs = search needs
 
 further-requires : tie.Need-further-requires
 further-requires c κs =
@@ -31,7 +31,7 @@ further-requires c κs =
         pre .1 .0,
         after-able (pre .1 .1 .0) (pre .1 .1 .1 .0) (pre .1 .1 .1 .1 .1 .0) (pre .1 .1 .1 .1 .1 .1 .1 .1) (c .before .before .least .ensures)
             (c .before .serve .ensures)
-            (c .least2 .ensures),
+            (c .lesser .ensures),
       ),
     )
 
@@ -40,7 +40,7 @@ budgets-on-requires c κs =
     let pre = c .before .before .before .before .pre in
     let ticks = c .before .before .before .least .ensures in
     let served = c .before .before .serve .ensures in
-    let spare = c .before .least2 .ensures in (
+    let spare = c .before .lesser .ensures in (
       after-able (pre .1 .1 .0) (pre .1 .1 .1 .0) (pre .1 .1 .1 .1 .1 .0) (pre .1 .1 .1 .1 .1 .1 .1 .1) ticks served spare,
       (
         further-few (pre .1 .1 .0) (pre .1 .1 .1 .0) (pre .1 .1 .1 .1 .1 .0) (pre .1 .1 .1 .1 .1 .1 .1 .1) ticks served spare
@@ -58,7 +58,7 @@ key-of-requires c κs =
     (last-key (pre .1 .1 .0) (pre .1 .1 .1 .0) (pre .1 .1 .1 .1 .1 .0) (pre .1 .1 .1 .1 .1 .1 .1 .1)
     (c .before .before .before .before .least .ensures)
     (c .before .before .before .serve .ensures)
-    (c .before .before .least2 .ensures)
+    (c .before .before .lesser .ensures)
     (c .before .further .ensures)
     (pre .0))
 
@@ -73,7 +73,7 @@ mul-t15 c =
       gone-few (pre .1 .1 .0) (pre .1 .1 .1 .0) (pre .1 .1 .1 .1 .1 .0) (pre .1 .1 .1 .1 .1 .1 .1 .1)
           (c .before .before .before .before .before .before .least .ensures)
           (c .before .before .before .before .before .serve .ensures)
-          (c .before .before .before .before .least2 .ensures)
+          (c .before .before .before .before .lesser .ensures)
           (c .before .before .before .further .ensures),
     )
 
@@ -85,7 +85,7 @@ add-t16 c =
       gone-few (pre .1 .1 .0) (pre .1 .1 .1 .0) (pre .1 .1 .1 .1 .1 .0) (pre .1 .1 .1 .1 .1 .1 .1 .1)
           (c .before .before .before .before .before .before .least .ensures)
           (c .before .before .before .before .before .serve .ensures)
-          (c .before .before .before .before .least2 .ensures)
+          (c .before .before .before .before .lesser .ensures)
           (c .before .before .before .further .ensures),
     )
 
@@ -100,7 +100,7 @@ add-t17 c =
       further-few (pre .1 .1 .0) (pre .1 .1 .1 .0) (pre .1 .1 .1 .1 .1 .0) (pre .1 .1 .1 .1 .1 .1 .1 .1)
           (c .before .before .before .before .before .before .least .ensures)
           (c .before .before .before .before .before .serve .ensures)
-          (c .before .before .before .before .least2 .ensures)
+          (c .before .before .before .before .lesser .ensures)
           (c .before .before .before .further .ensures),
     )
 
@@ -110,7 +110,7 @@ returns c =
     planned (pre .1 .1 .0) (pre .1 .1 .1 .0) (pre .1 .1 .1 .1 .1 .0) (pre .1 .1 .1 .1 .1 .1 .1 .1)
     (c .before .before .before .before .before .before .least .ensures)
     (c .before .before .before .before .before .serve .ensures)
-    (c .before .before .before .before .least2 .ensures)
+    (c .before .before .before .before .lesser .ensures)
     (c .before .before .before .further .ensures)
     (pre .1 .1 .1 .1 .0)
     (pre .1 .1 .1 .1 .1 .1 .0)
@@ -125,9 +125,9 @@ plan-spec =
     (tie.spec
     least-requires
     serve-requires
-    sub-least
-    sub-least-2
-    least-requires-2
+    sub-lesser
+    sub-lesser-2
+    lesser-requires
     further-requires
     budgets-on-requires
     key-of-requires
