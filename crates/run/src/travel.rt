@@ -19,11 +19,13 @@ use summary::Summary;
 
 pub struct Travelled {
     pub segments: usize,
+    // What has finished, and the counts that are kept beside it until the run ends: they change with every segment.
     pub records: [Summary; sizes::MOST_SERVERS],
     pub postponed: [u64; sizes::MOST_SERVERS],
     pub interrupted: [u64; sizes::MOST_SERVERS],
 }
 
+// Segments go into the list as they end, and finishes as they come.
 pub(crate) fn travel(file: &[u8], list: &mut [u64], finishes: &mut [u32]) -> Travelled
     requires { ⌜ Accepted (now file) ⌝ }
     requires { ⌜ work (now file) .arrivals ≤ length (now finishes) ⌝ }
@@ -33,7 +35,9 @@ pub(crate) fn travel(file: &[u8], list: &mut [u64], finishes: &mut [u32]) -> Tra
     let horizon = h.horizon.tick;
     ending::open_all(finishes, h.arrivals.count);
     let mut d = starting::start(file);
+    // The winner tree, in which an idle server has the last number of all for its key.
     let mut keys = [clock::LAST_TICK; 128];
+    // The job that each server serves, and what is left of it.
     let mut job = [0; sizes::MOST_SERVERS];
     let mut left = [0; sizes::MOST_SERVERS];
     let mut postponed = [0; sizes::MOST_SERVERS];
@@ -46,10 +50,12 @@ pub(crate) fn travel(file: &[u8], list: &mut [u64], finishes: &mut [u32]) -> Tra
         waits: 0,
         count: 0,
     };
+    // The moment, how many arrivals are taken, and the moment of the next one, or the horizon.
     let mut t = 0;
     let mut j = 0;
     let mut next = reading::next_moment(file, 0);
     while t < horizon {
+        // At most once: all arrivals of t are taken together.
         while next <= t {
             let taken = taking::take(file, &mut keys, d, j);
             d = taken.dispatcher;
