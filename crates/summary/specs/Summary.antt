@@ -68,7 +68,7 @@ ending s = s .start .tick + s .length .ticks
 abbrev pub leavesWork : Work → ℕ → Segment → Bool
 leavesWork w i s = eqb (s .server) i && ltb 0 (waitingAt w i (ending s))
 
--- "Interrupted counts the segments that end before N" so
+-- "Interrupted counts the segments that end before N" and leave work so
 unfoldable pub interruptedOf : Work → ℕ → ℕ
 interruptedOf w i =
     howMany (λ s. ltb (ending s) (w .horizon .tick) && leavesWork w i s) (trace (history w) (w .horizon .tick))
