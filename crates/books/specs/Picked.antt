@@ -92,6 +92,3 @@ module _ {w : Work} {lent ends : List ℕ} {t j next : ℕ} {d : Dispatcher} {ke
 
     pub picked-charged : 0 < serverAt d i .remaining .ticks
     picked-charged = busy-charged picked-ranged (eqb-false _ _ (earliest .works))
-
-    pub picked-place : i < length (d .servers)
-    picked-place = omega (arith, picked-server, now-within .places)

@@ -44,14 +44,6 @@ module _ {w : Work} {lent ends : List ℕ} {t j next : ℕ} {d : Dispatcher} {ke
   pub at-horizon : t ≡ w .horizon .tick
   at-horizon = le-antisymm (v .horizon) end
 
-  -- every arrival comes before the horizon
-  pub all-taken : j ≡ w .arrivals
-  all-taken = go (decLt j (w .arrivals))
-    where
-      go : Dec (j < w .arrivals) → j ≡ w .arrivals
-      go (yes l) = let no : ⊥ = omega (arith, v .stands .ahead j (omega arith) l, fit .in-time j l) in absurd no
-      go (no l) = omega (arith, v .stands .count)
-
   -- with the last stretch all segments are written, and counted
   last-segment : Segments w lent (traceAfter (c .server) (c .deadline) (c .start .tick) t (c .count) list) (countAfter (c .server) (c .count)) t
   last-segment = segments-end (c .server) (c .deadline) (v .segmented .stretch) (v .segmented .segments)

@@ -3,11 +3,11 @@ use Prim.Native.Nat.{ℕ, suc, _+_, _≤_, _<_}
 use borrow.Author.Tests.{eqb-true, eq-eqb, ne-eqb}
 use lib.Dec.{eqb}
 use mathlib.Core.Bool.{Bool, true, false, false≢true}
-use mathlib.Core.Path.{_≡_, refl, _∙_, ap, ap₂, subst}
+use mathlib.Core.Path.{_≡_, refl, _∙_, ap, ap₂}
 use Rattle.clock.specs.declared.Moment.{Moment}
 use Rattle.clock.specs.Clock.{moment}
 use Rattle.counting.specs.Count.{count, count-all, count-more, count-none, count-step}
-use Rattle.counting.specs.Tests.{and-left, and-right, and-both, not-both}
+use Rattle.counting.specs.Tests.{and-left, and-right, and-both}
 use Rattle.history.specs.Choice.{Choice, nobody, given, History, same, isFor, served}
 
 pub same-refl : (x : Choice) → same x x ≡ true
@@ -30,9 +30,6 @@ same-differ x y n = go (same x y) refl
     go : (b : Bool) → same x y ≡ b → same x y ≡ false
     go true e = absurd (n (same-equal x y e))
     go false e = e
-
-pub differ-same : (x y : Choice) → same x y ≡ false → x ≡ y → ⊥
-differ-same x y e q = not-both (same-refl y) (subst (λ (z : Choice). same z y ≡ false) q e)
 
 -- Of a stretch of k ticks from t on that are all given to server i.
 module _ (h : History) (i : ℕ) where

@@ -20,7 +20,7 @@ use Rattle.dispatcher.specs.Within.{Within}
 use Rattle.sizes.specs.Sizes.{clockEnd}
 use Rattle.workfile.specs.FitLaws.{Fit}
 use Rattle.workfile.specs.Work.{Work}
-use Rattle.moments.specs.Moments.{taken, atMoment, ready}
+use Rattle.moments.specs.Moments.{taken, atMoment}
 
 -- an arrival leaves the clock and the count of servers
 module _ (d : Dispatcher) (i : ℕ) (cost : Length) where
@@ -110,10 +110,6 @@ module _ (w : Work) where
         admitted-within (w .frame) (w .table) (fit .frame-from) (fit .frame-to) (fit .servers) (fit .admitted)
     at-within (suc t) = tick-within (taken-within (w .arrivals) (at-within t))
 
-    pub ready-within : (t : ℕ) → Within (ready w t)
-    unfolding ready
-    ready-within t = taken-within (w .arrivals) (at-within t)
-
   pub at-keeps : (t : ℕ) → t ≤ clockEnd → (atMoment w t .clock ≡ moment t) × (atMoment w t .count ≡ w .table .count)
   unfolding atMoment atStart
   at-keeps zero le = (refl, refl)
@@ -127,11 +123,3 @@ module _ (w : Work) where
           let clock : taken w (w .arrivals) (atMoment w t) .clock ≡ moment t = took .0 ∙ before .0 in
           let moved = tick-keeps (taken w (w .arrivals) (atMoment w t)) (rw clock (omega arith)) in
           (moved .0 ∙ ap (λ (m : Moment). moment (suc (m .tick))) clock, moved .1 ∙ took .1 ∙ before .1)
-
-  pub ready-keeps : (t : ℕ) → t ≤ clockEnd → (ready w t .clock ≡ moment t) × (ready w t .count ≡ w .table .count)
-  unfolding ready
-  ready-keeps t le = (
-    taken-keeps (w .arrivals) (atMoment w t) .0 ∙ at-keeps t le .0,
-    taken-keeps (w .arrivals) (atMoment w t) .1 ∙ at-keeps t
-        le .1,
-  )

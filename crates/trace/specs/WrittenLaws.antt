@@ -104,13 +104,6 @@ module _ (k : ℕ) (s : Segment) (list : List ℕ) (fits : k < length list / 4) 
       within : (p : ℕ) → p < length four → p < length list
       within p b = omega (arith, same)
 
-pub put-length : (k : ℕ) (s : Segment) (list : List ℕ) → length (put k s list) ≡ length list
-put-length k s list = go (decLt k (length list / 4))
-  where
-    go : Dec (k < length list / 4) → length (put k s list) ≡ length list
-    go (yes h) = rw (put-fits k s list h) (simp length-set)
-    go (no h) = rw (put-short k s list (omega arith))
-
 -- behind four places that are another's
 put-behind : (k : ℕ) (s : Segment) (a b c d : ℕ) (rest : List ℕ)
     → put (suc k) s (a ∷ b ∷ c ∷ d ∷ rest) ≡ a ∷ b ∷ c ∷ d ∷ put k s rest

@@ -15,8 +15,7 @@ use Rattle.workfile.specs.declared.Header.{Header}
 use Rattle.workfile.specs.Judgement.{lengthOutOfRange, sizesOutOfRange, layoutBroken, workJudged, judged}
 use Rattle.workfile.specs.Layout.{header}
 use Rattle.workfile.specs.PassedLaws.{listJudged}
-use Rattle.workfile.specs.Work.{Work}
-use Rattle.workfile.specs.WorkLaws.{workUnder, work-under}
+use Rattle.workfile.specs.Work.{Work, workUnder, work}
 
 -- what a header has that is not refused by 2
 pub record Sized (h : Header) : Type 0 where
@@ -86,8 +85,8 @@ module _ (file : List ℕ) (places : ℕ) where
 
     pub judged-work : sizesOutOfRange h ≡ false → layoutBroken h (length file) ≡ false
         → judged file places ≡ workJudged (workUnder h file) places
-    unfolding judged
-    judged-work e f = rw (long, rw read at e, rw read at f, work-under file, read)
+    unfolding judged work
+    judged-work e f = rw (long, rw read at e, rw read at f, read)
 
 -- the table, then the list
 pub work-refused : (w : Work) (places n p : ℕ) → admission (w .frame) (w .table) ≡ refused n p → workJudged w places ≡ refused n p

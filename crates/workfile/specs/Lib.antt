@@ -5,4 +5,3 @@ pub mod Layout
 pub mod LayoutLaws
 pub mod PassedLaws
 pub mod Work
-pub mod WorkLaws

@@ -7,6 +7,7 @@ use Rattle.booking.specs.Admission.{Table}
 use Rattle.clock.specs.declared.Length.{Length}
 use Rattle.clock.specs.declared.Moment.{Moment}
 use Rattle.sizes.specs.Sizes.{serverBytes, arrivalBytes}
+use Rattle.workfile.specs.declared.Header.{Header}
 use Rattle.workfile.specs.Layout.{header, bookingAt, arrivalAt}
 
 pub record Work : Type 0 where
@@ -20,17 +21,17 @@ pub record Work : Type 0 where
   pub arrivals : ℕ
   pub arrival : ℕ → Arrival
 
--- the work of a file: the records stand one behind the other from their offsets on
-unfoldable pub work : List ℕ → Work
-work file =
+-- what a file holds under a header: the records stand one behind the other from their offsets on
+abbrev pub workUnder : Header → List ℕ → Work
+workUnder h file =
     record {
-      frame = header file .frame;
-      horizon = header file .horizon;
-      table =
-          record {
-            count = header file .servers .count;
-            booking = λ k. bookingAt file (header file .servers .offset + serverBytes * k);
-          };
-      arrivals = header file .arrivals .count;
-      arrival = λ k. arrivalAt file (header file .arrivals .offset + arrivalBytes * k);
+      frame = h .frame;
+      horizon = h .horizon;
+      table = record { count = h .servers .count; booking = λ k. bookingAt file (h .servers .offset + serverBytes * k) };
+      arrivals = h .arrivals .count;
+      arrival = λ k. arrivalAt file (h .arrivals .offset + arrivalBytes * k);
     }
+
+-- the work of a file is what it holds under its own header
+unfoldable pub work : List ℕ → Work
+work file = workUnder (header file) file

@@ -8,7 +8,7 @@ ghost use Rattle.workfile.specs.Judgement.{lengthOutOfRange, sizesOutOfR
 ghost use Rattle.workfile.specs.JudgementLaws.{Sized, Narrow, Placed};
 ghost use Rattle.workfile.specs.Layout.{header, bookingAt, arrivalAt};
 ghost use Rattle.workfile.specs.PassedLaws.{listJudged};
-ghost use Rattle.workfile.specs.WorkLaws.{workUnder};
+ghost use Rattle.workfile.specs.Work.{workUnder};
 use arrival::Arrival;
 use booking::Booking;
 use clock::Length;

@@ -7,7 +7,7 @@ use native.Mathlib.Numerals.{add-one}
 use native.Mathlib.Omega.{arith}
 use Rattle.booking.specs.AdmissionLaws.{Sofar, sofar-none, sofar-more, sofar-le, sofar-faulty, sofar-over, sofar-whole}
 use Rattle.booking.specs.Share.{shareOf}
-use Rattle.workfile.specs.WorkLaws.{workUnder}
+use Rattle.workfile.specs.Work.{workUnder}
 use Rattle.workfile.proofs.admit.Statement.{statement}
 use Rattle.workfile.proofs.admit.Tie as tie
 
