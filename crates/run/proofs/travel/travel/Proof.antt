@@ -54,8 +54,8 @@ header-of-requires : tie.Need-header-of-requires Inv-loop2 μ-loop2 Inv-loop μ-
 header-of-requires c κs = search needs
 
 open-all-requires : tie.Need-open-all-requires Inv-loop2 μ-loop2 Inv-loop μ-loop
-open-all-requires c κs = omega
-    (arith, arrivals-read _ (c .before .header-of .ensures), c .before .before .before .before .before .pre .1)
+open-all-requires c κs =
+    omega (arith, arrivals-read _ (c .before .header-of .ensures), c .before .before .before .before .before .pre .1)
 
 start-requires : tie.Need-start-requires Inv-loop2 μ-loop2 Inv-loop μ-loop
 start-requires c κs = c .before .before .before .before .before .before .before .before .pre .0
@@ -90,18 +90,20 @@ settled c = c .before .before .before .before
 accepted : (c : tie.After-next-moment Inv-loop2 μ-loop2 Inv-loop μ-loop) → Accepted (file c)
 accepted c = c .before .before .before .before .before .before .before .before .before .before .before .pre .0
 
-all-open : (c : tie.After-next-moment Inv-loop2 μ-loop2 Inv-loop μ-loop) → (opened-list c) ≡ finishList (work (file c) .arrivals)
-    (λ k. isOpen) (ends c)
-all-open c = c .before .before .before .before .before .open-all .ensures ∙ ap (λ (m : ℕ). finishList m (λ k. isOpen) (ends c))
+all-open : (c : tie.After-next-moment Inv-loop2 μ-loop2 Inv-loop μ-loop) → (opened-list c) ≡ finishList
+    (work (file c) .arrivals) (λ k. isOpen) (ends c)
+all-open c =
+    c .before .before .before .before .before .open-all .ensures ∙ ap (λ (m : ℕ). finishList m (λ k. isOpen) (ends c))
     (arrivals-read _ (c .before .before .before .before .before .before .before .header-of .ensures))
 
 long : (c : tie.After-next-moment Inv-loop2 μ-loop2 Inv-loop μ-loop) → work (file c) .arrivals ≤ length (opened-list c)
-long c = omega (
-  arith,
-  ap length (all-open c),
-  finishes-length (work (file c) .arrivals) (ends c) (λ k. isOpen),
-  c .before .before .before .before .before .before .before .before .before .before .before .pre .1,
-)
+long c =
+    omega (
+      arith,
+      ap length (all-open c),
+      finishes-length (work (file c) .arrivals) (ends c) (λ k. isOpen),
+      c .before .before .before .before .before .before .before .before .before .before .before .pre .1,
+    )
 
 fit : (c : tie.After-next-moment Inv-loop2 μ-loop2 Inv-loop μ-loop) → Fit (work (file c)) (length (opened-list c))
 fit c = fit-beside (length (opened-list c)) (accepted c .fit) (long c)
@@ -113,41 +115,31 @@ to-horizon c = horizon-read _ (c .before .before .before .before .before .before
 loop-holds : tie.Need-loop-holds Inv-loop2 μ-loop2 Inv-loop μ-loop
 loop-holds c =
     travels-start (lent c) (opened-list c) (fit c)
-    (all-open c
-    ∙ sym (finishes-again (work (file c) .arrivals) (λ k. isOpen) (λ k. isOpen) (ends c))
-    ∙ ap (finishList (work (file c) .arrivals) (λ k. isOpen)) (sym (all-open c)))
-    (c .before .before .start .ensures)
-    (c .next-moment .ensures)
-    (c .before .blank-records .ensures)
+    (all-open c ∙ sym (finishes-again (work (file c) .arrivals) (λ k. isOpen) (λ k. isOpen) (ends c)) ∙ ap
+    (finishList (work (file c) .arrivals) (λ k. isOpen)) (sym (all-open c))) (c .before .before .start .ensures)
+    (c .next-moment .ensures) (c .before .blank-records .ensures)
 
 loop2-holds : tie.Need-loop2-holds Inv-loop2 μ-loop2 Inv-loop μ-loop
-loop2-holds c = record {
-  stands = c .before .loop .inv .stands;
-  keyed = c .before .loop .inv .keyed;
-  from = omega arith;
-  next-is =
-      c .before .loop .inv .next-is;
-}
+loop2-holds c =
+    record {
+      stands = c .before .loop .inv .stands;
+      keyed = c .before .loop .inv .keyed;
+      from = omega arith;
+      next-is =
+          c .before .loop .inv .next-is;
+    }
 
 take-requires : tie.Need-take-requires Inv-loop2 μ-loop2 Inv-loop μ-loop
 take-requires c κs =
-    let end : c .before .before .before .before .loop .t ≤ clockEnd = omega (
-      arith,
-      c .before .before .before .loop-test .taken,
-      to-horizon (c .before .before .before .before .before),
-      fit
-          (c .before .before .before .before .before) .horizon,
-    ) in
-    let now = ap (λ (m : Moment). m .tick)
-    (stands-clock (fit (c .before .before .before .before .before)) (c .before .before .loop2 .inv .stands) end) in (
-      accepted (c .before .before .before .before .before),
+    let s = c .before .before .before .before .before in
+    let end : c .before .before .before .before .loop .t ≤ clockEnd = omega
+    (arith, c .before .before .before .loop-test .taken, to-horizon s, fit s .horizon) in
+    let now = ap (λ (m : Moment). m .tick) (stands-clock (fit s) (c .before .before .loop2 .inv .stands) end) in (
+      accepted s,
       (
-        subst⁻¹ (λ (u : ℕ). Stands (work (file (c .before .before .before .before .before))) u (c .before .before .loop2 .j)
-            (c .before .before .loop2 .d)) now (c .before .before .loop2 .inv .stands),
-        (
-          c .before .before .loop2 .inv .keyed,
-          omega arith,
-        ),
+        subst⁻¹ (λ (u : ℕ). Stands (work (file s)) u (c .before .before .loop2 .j) (c .before .before .loop2 .d))
+            now (c .before .before .loop2 .inv .stands),
+        (c .before .before .loop2 .inv .keyed, omega arith),
       ),
     )
 
@@ -159,49 +151,47 @@ took : (c : tie.After-next-moment2 Inv-loop2 μ-loop2 Inv-loop μ-loop) → Took
     (c .before .before .before .before .before .before .before .loop .t) (c .before .before .take .last .1 .0)
     (c .before .before .take .result .dispatcher) (c .before .before .take .result .arrivals)
 took c =
-    let end : c .before .before .before .before .before .before .before .loop .t ≤ clockEnd = omega (
-      arith,
-      c .before .before .before .before .before .before .loop-test .taken,
-      to-horizon
-          (c .before .before .before .before .before .before .before .before),
-      fit
-          (c .before .before .before .before .before .before .before .before) .horizon,
-    ) in
+    let s = c .before .before .before .before .before .before .before .before in
+    let end : c .before .before .before .before .before .before .before .loop .t ≤ clockEnd = omega
+    (arith, c .before .before .before .before .before .before .loop-test .taken, to-horizon s, fit s .horizon) in
     let now = ap (λ (m : Moment). m .tick)
-    (stands-clock (fit (c .before .before .before .before .before .before .before .before))
-    (c .before .before .before .before .before .loop2 .inv .stands) end) in
-    subst (λ (u : ℕ). Took (work (file (c .before .before .before .before .before .before .before .before))) u
-    (c .before .before .take .last .1 .0) (c .before .before .take .result .dispatcher)
-    (c .before .before .take .result .arrivals)) now (c .before .before .take .ensures)
+    (stands-clock (fit s) (c .before .before .before .before .before .loop2 .inv .stands) end) in
+    subst (λ (u : ℕ). Took (work (file s)) u (c .before .before .take .last .1 .0)
+    (c .before .before .take .result .dispatcher) (c .before .before .take .result .arrivals)) now
+    (c .before .before .take .ensures)
 
 in-time : (c : tie.After-next-moment2 Inv-loop2 μ-loop2 Inv-loop μ-loop) →
     c .before .before .before .before .before .before .before .loop .t < work
     (file (c .before .before .before .before .before .before .before .before)) .horizon .tick
-in-time c = omega (
-  arith,
-  c .before .before .before .before .before .before .loop-test .taken,
-  to-horizon
-      (c .before .before .before .before .before .before .before .before),
-)
+in-time c =
+    omega (
+      arith,
+      c .before .before .before .before .before .before .loop-test .taken,
+      to-horizon
+          (c .before .before .before .before .before .before .before .before),
+    )
 
 loop2-less : tie.Need-loop2-less Inv-loop2 μ-loop2 Inv-loop μ-loop
-loop2-less c = omega (
-  arith,
-  takes-more (c .before .before .before .before .before .loop2 .inv) (in-time c)
-      (c .before .before .before .before .loop2-test .taken) (took c),
-  took c .stands .count,
-)
+loop2-less c =
+    omega (
+      arith,
+      takes-more (c .before .before .before .before .before .loop2 .inv) (in-time c)
+          (c .before .before .before .before .loop2-test .taken) (took c),
+      took c .stands .count,
+    )
 
 loop2-again : tie.Need-loop2-again Inv-loop2 μ-loop2 Inv-loop μ-loop
-loop2-again c = taking-more (c .before .before .before .before .before .loop2 .inv) (in-time c)
+loop2-again c =
+    taking-more (c .before .before .before .before .before .loop2 .inv) (in-time c)
     (c .before .before .before .before .loop2-test .taken) (took c) _ (c .next-moment2 .ensures)
 
 -- Once the arrivals of the moment are taken.
 going : (c : tie.After-loop2 Inv-loop2 μ-loop2 Inv-loop μ-loop) → Travels (work (file (began c))) (lent (began c))
     (opened-list (began c)) (c .before .before .before .loop .t) (c .before .loop2 .j) (c .before .loop2 .next)
-    (c .before .loop2 .d) (c .before .loop2 .keys) (c .before .before .before .loop .job) (c .before .before .before .loop .left)
-    (c .before .before .before .loop .postponed) (c .before .before .before .loop .interrupted)
-    (c .before .before .before .loop .list) (c .before .before .before .loop .finishes) (c .before .before .before .loop .records)
+    (c .before .loop2 .d) (c .before .loop2 .keys) (c .before .before .before .loop .job)
+    (c .before .before .before .loop .left) (c .before .before .before .loop .postponed)
+    (c .before .before .before .loop .interrupted) (c .before .before .before .loop .list)
+    (c .before .before .before .loop .finishes) (c .before .before .before .loop .records)
     (c .before .before .before .loop .c)
 going c = travels-taking (fit (began c)) (c .before .before .before .loop .inv) (c .before .loop2 .inv)
 
@@ -212,59 +202,50 @@ array-read-key : tie.Need-array-read-key Inv-loop2 μ-loop2 Inv-loop μ-loop
 array-read-key c = search needs
 
 turn-to-requires : tie.Need-turn-to-requires Inv-loop2 μ-loop2 Inv-loop μ-loop
-turn-to-requires c κs = (
-  started (fit (began (c .before .before .before))) (going (c .before .before .before)),
-  (
-    omega (
-      arith,
-      counted (fit (began (c .before .before .before))) (going (c .before .before .before)),
-      before-horizon
-          (c .before .before .before),
-    ),
-    omega (
-      arith,
-      cut-few (fit (began (c .before .before .before))) (going (c .before .before .before))
-          (c .before .before .before .before .before .before .loop .c .server),
-      before-horizon (c .before .before .before),
-    ),
-  ),
-)
+turn-to-requires c κs =
+    let a = c .before .before .before in (
+      started (fit (began a)) (going a),
+      (
+        omega (arith, counted (fit (began a)) (going a), before-horizon a),
+        omega
+            (arith, cut-few (fit (began a)) (going a) (a .before .before .before .loop .c .server), before-horizon a),
+      ),
+    )
 
 loop-less : tie.Need-loop-less Inv-loop2 μ-loop2 Inv-loop μ-loop
-loop-less c = omega (
-  arith,
-  c .before .before .before .before .before .before .loop2-test .left,
-  c .before .before .before .before .before .before .before .before .loop-test .taken,
-)
+loop-less c =
+    omega (
+      arith,
+      c .before .before .before .before .before .before .loop2-test .left,
+      c .before .before .before .before .before .before .before .before .loop-test .taken,
+    )
 
 loop-again : tie.Need-loop-again Inv-loop2 μ-loop2 Inv-loop μ-loop
 loop-again c =
-    idled-on (fit (began (c .before .before .before .before .before .before)))
-    (going (c .before .before .before .before .before .before))
-    (c .before .before .before .before .before .before .loop2-test .left)
-    (c .before .before .before .before .before .if1 .taken) (c .before .before .turn-to .ensures .0)
-    (c .before .before .turn-to .ensures .1 .0)
+    let a = c .before .before .before .before .before .before in
+    idled-on (fit (began a)) (going a) (a .loop2-test .left) (c .before .before .before .before .before .if1 .taken)
+    (c .before .before .turn-to .ensures .0) (c .before .before .turn-to .ensures .1 .0)
     (c .before .before .turn-to .ensures .1 .1)
 
 open-next-requires : tie.Need-open-next-requires Inv-loop2 μ-loop2 Inv-loop μ-loop
-open-next-requires c κs = (
-  accepted (began (c .before .before .before)),
-  (
-    picked-server (fit (began (c .before .before .before))) (going (c .before .before .before)) _ (c .before .before .if1 .left)
-        refl,
-    served-premise (fit (began (c .before .before .before))) (going (c .before .before .before) .stands)
-        (going (c .before .before .before) .jobs)
-        (picked-server (fit (began (c .before .before .before))) (going (c .before .before .before)) _
-        (c .before .before .if1 .left) refl)
-        (picked-waits (fit (began (c .before .before .before))) (going (c .before .before .before)) _ (c .before .before .if1 .left)
-        refl),
-  ),
-)
+open-next-requires c κs =
+    let a = c .before .before .before in (
+      accepted (began a),
+      (
+        picked-server (fit (began a)) (going a) _ (c .before .before .if1 .left) refl,
+        served-premise
+            (fit (began a)) (going a .stands) (going a .jobs)
+            (picked-server (fit (began a)) (going a) _ (c .before .before .if1 .left) refl)
+            (picked-waits (fit (began a)) (going a) _ (c .before .before .if1 .left) refl),
+      ),
+    )
 
 opened : (c : tie.After-open-next Inv-loop2 μ-loop2 Inv-loop μ-loop) → Jobs (work (file (began (settled c))))
     ((settled c) .before .before .before .loop .t) ((settled c) .before .loop2 .j) (c .open-next .last .1 .0)
-    (c .open-next .last .1 .1 .0) × (0 < getD (c .open-next .last .1 .1 .0) (getD ((settled c) .before .loop2 .keys) 1 0 % 64) 0)
-opened c = opened-jobs (fit (began (settled c))) (going (settled c) .stands) (going (settled c) .jobs)
+    (c .open-next .last .1 .1 .0) ×
+    (0 < getD (c .open-next .last .1 .1 .0) (getD ((settled c) .before .loop2 .keys) 1 0 % 64) 0)
+opened c =
+    opened-jobs (fit (began (settled c))) (going (settled c) .stands) (going (settled c) .jobs)
     (picked-server (fit (began (settled c))) (going (settled c)) _ (c .before .before .before .if1 .left) refl)
     (picked-waits (fit (began (settled c))) (going (settled c)) _ (c .before .before .before .if1 .left) refl)
     (c .open-next .ensures)
@@ -282,21 +263,19 @@ ahead : (c : tie.After-open-next Inv-loop2 μ-loop2 Inv-loop μ-loop) → ((sett
 ahead c = c .before .before .before .before .loop2-test .left
 
 until-end : (c : tie.After-open-next Inv-loop2 μ-loop2 Inv-loop μ-loop) → ((settled c) .before .loop2 .next) ≤ clockEnd
-until-end c = omega (
-  arith,
-  next-horizon-le (fit (began (settled c))) (going (settled c)) (ahead c),
-  fit
-      (began (settled c)) .horizon,
-)
+until-end c =
+    omega (arith, next-horizon-le (fit (began (settled c))) (going (settled c)) (ahead c), fit (began (settled c)) .horizon)
 
-clock-early : (c : tie.After-open-next Inv-loop2 μ-loop2 Inv-loop μ-loop) → ((settled c) .before .loop2 .d) .clock .tick < clockEnd
-clock-early c = omega (
-  arith,
-  ap (λ (m : Moment). m .tick)
-      (stands-clock (fit (began (settled c))) (going (settled c) .stands)
-      (before-end (fit (began (settled c))) (going (settled c)))),
-  before-horizon (settled c),
-)
+clock-early : (c : tie.After-open-next Inv-loop2 μ-loop2 Inv-loop μ-loop) → ((settled c) .before .loop2 .d) .clock .tick <
+    clockEnd
+clock-early c =
+    omega (
+      arith,
+      ap (λ (m : Moment). m .tick)
+          (stands-clock (fit (began (settled c))) (going (settled c) .stands)
+          (before-end (fit (began (settled c))) (going (settled c)))),
+      before-horizon (settled c),
+    )
 
 mul-s : tie.Need-mul-s Inv-loop2 μ-loop2 Inv-loop μ-loop
 mul-s c = omega (arith, here c)
@@ -314,266 +293,239 @@ sub-plan : tie.Need-sub-plan Inv-loop2 μ-loop2 Inv-loop μ-loop
 sub-plan c = omega (arith, ahead (c .before .before))
 
 plan-requires : tie.Need-plan-requires Inv-loop2 μ-loop2 Inv-loop μ-loop
-plan-requires c κs = (
-  here (c .before .before),
-  (
-    going (settled (c .before .before)) .keyed .winners,
-    (
-      ranged-able (picked-ranged (fit (began (settled (c .before .before)))) (going (settled (c .before .before))) _
-          (c .before .before .before .before .before .if1 .left) refl) (clock-early (c .before .before)),
+plan-requires c κs =
+    let o = c .before .before in (
+      here o,
       (
-        ranged-early (picked-ranged (fit (began (settled (c .before .before)))) (going (settled (c .before .before))) _
-            (c .before .before .before .before .before .if1 .left) refl) (clock-early (c .before .before)),
+        going (settled o) .keyed .winners,
         (
-          opened (c .before .before) .1,
+          ranged-able (picked-ranged (fit (began (settled o))) (going (settled o)) _ (o .before .before .before .if1 .left)
+              refl) (clock-early o),
           (
-            waiting (c .before .before),
+            ranged-early (picked-ranged (fit (began (settled o))) (going (settled o)) _ (o .before .before .before .if1 .left)
+                refl) (clock-early o),
             (
-              picked-charged (fit (began (settled (c .before .before)))) (going (settled (c .before .before))) _
-                  (c .before .before .before .before .before .if1 .left) refl,
+              opened o .1,
               (
-                omega (arith, ahead (c .before .before)),
-                omega (arith, until-end (c .before .before)),
+                waiting o,
+                (
+                  picked-charged (fit (began (settled o))) (going (settled o)) _ (o .before .before .before .if1 .left) refl,
+                  (omega (arith, ahead o), omega (arith, until-end o)),
+                ),
               ),
             ),
           ),
         ),
       ),
-    ),
-  ),
-)
+    )
 
 pass-through-requires : tie.Need-pass-through-requires Inv-loop2 μ-loop2 Inv-loop μ-loop
-pass-through-requires c κs = (
-  c .before .before .before .plan .ensures .able,
-  (
-    omega (
-      arith,
-      c .before .before .before .plan .ensures .gone-after,
-      c .before .before .before .plan .ensures .gone-room,
-      until-end (c .before .before .before .before .before .before),
-      ahead (c .before .before .before .before .before .before),
-    ),
-    (
-      c .before .before .before .plan .ensures .works,
+pass-through-requires c κs =
+    let o = c .before .before .before .before .before .before in (
+      c .before .before .before .plan .ensures .able,
       (
-        started (fit (began (settled (c .before .before .before .before .before .before))))
-            (going (settled (c .before .before .before .before .before .before))),
+        omega (
+          arith,
+          c .before .before .before .plan .ensures .gone-after,
+          c .before .before .before .plan .ensures .gone-room,
+          until-end o,
+          ahead o,
+        ),
         (
-          omega (
-            arith,
-            counted (fit (began (settled (c .before .before .before .before .before .before))))
-                (going (settled (c .before .before .before .before .before .before))),
-            before-horizon
-                (settled (c .before .before .before .before .before .before)),
-          ),
+          c .before .before .before .plan .ensures .works,
           (
-            cut-few (fit (began (settled (c .before .before .before .before .before .before))))
-                (going (settled (c .before .before .before .before .before .before))),
-            before-horizon (settled (c .before .before .before .before .before .before)),
+            started (fit (began (settled o))) (going (settled o)),
+            (
+              omega (arith, counted (fit (began (settled o))) (going (settled o)), before-horizon (settled o)),
+              (cut-few (fit (began (settled o))) (going (settled o)), before-horizon (settled o)),
+            ),
           ),
         ),
       ),
-    ),
-  ),
-)
+    )
 
 set-key-requires : tie.Need-set-key-requires Inv-loop2 μ-loop2 Inv-loop μ-loop
-set-key-requires c κs = (
-  here (c .before .before .before .before .before .before .before .before .before .before),
-  going
-      (settled (c .before .before .before .before .before .before .before .before .before .before)) .keyed .winners,
-)
+set-key-requires c κs =
+    let o = c .before .before .before .before .before .before .before .before .before .before in
+    (here o, going (settled o) .keyed .winners)
 
 mul-postponed : tie.Need-mul-postponed Inv-loop2 μ-loop2 Inv-loop μ-loop
-mul-postponed c = omega (arith, here (c .before .before .before .before .before .before .before .before .before .before .before))
+mul-postponed c =
+    omega (arith, here (c .before .before .before .before .before .before .before .before .before .before .before))
 
 array-read-postponed : tie.Need-array-read-postponed Inv-loop2 μ-loop2 Inv-loop μ-loop
 array-read-postponed c = here (c .before .before .before .before .before .before .before .before .before .before .before)
 
 add-postponed : tie.Need-add-postponed Inv-loop2 μ-loop2 Inv-loop μ-loop
-add-postponed c = omega (
-  arith,
-  postponed-few
-      (fit (began (settled (c .before .before .before .before .before .before .before .before .before .before .before .before))))
-      (going (settled (c .before .before .before .before .before .before .before .before .before .before .before .before))) _
-      (here (c .before .before .before .before .before .before .before .before .before .before .before .before)),
-  planned-few
-      (c .before .before .before .before .before .before .before .before .before .plan .ensures)
-      (picked-ranged (fit (began
-      (settled (c .before .before .before .before .before .before .before .before .before .before .before .before))))
-      (going (settled (c .before .before .before .before .before .before .before .before .before .before .before .before))) _
-      (c .before .before .before .before .before .before .before .before .before .before .before .before .before .before .before .if1 .left) refl .budget),
-  until-end (c .before .before .before .before .before .before .before .before .before .before .before .before),
-  before-horizon (settled (c .before .before .before .before .before .before .before .before .before .before .before .before)),
-)
+add-postponed c =
+    let o = c .before .before .before .before .before .before .before .before .before .before .before .before in
+    omega (
+      arith,
+      postponed-few (fit (began (settled o))) (going (settled o)) _ (here o),
+      planned-few
+          (c .before .before .before .before .before .before .before .before .before .plan .ensures)
+          (picked-ranged (fit (began (settled o))) (going (settled o)) _ (o .before .before .before .if1 .left) refl .budget),
+      until-end o,
+      before-horizon (settled o),
+    )
 
 array-write-postponed : tie.Need-array-write-postponed Inv-loop2 μ-loop2 Inv-loop μ-loop
-array-write-postponed c = here (c .before .before .before .before .before .before .before .before .before .before .before .before)
+array-write-postponed c =
+    here (c .before .before .before .before .before .before .before .before .before .before .before .before)
 
 sub-left : tie.Need-sub-left Inv-loop2 μ-loop2 Inv-loop μ-loop
 sub-left c = c .before .before .before .before .before .before .before .before .before .plan .ensures .gone-rest
 
 mul-left : tie.Need-mul-left Inv-loop2 μ-loop2 Inv-loop μ-loop
-mul-left c = omega (arith, here (c .before .before .before .before .before .before .before .before .before .before .before .before))
+mul-left c =
+    omega (arith, here (c .before .before .before .before .before .before .before .before .before .before .before .before))
 
 array-write-left : tie.Need-array-write-left Inv-loop2 μ-loop2 Inv-loop μ-loop
 array-write-left c = here (c .before .before .before .before .before .before .before .before .before .before .before .before)
 
 mul-last : tie.Need-mul-last Inv-loop2 μ-loop2 Inv-loop μ-loop
-mul-last c = omega (arith, here (c .before .before .before .before .before .before .before .before .before .before .before .before))
+mul-last c =
+    omega (arith, here (c .before .before .before .before .before .before .before .before .before .before .before .before))
 
 element-set-from-last : tie.Need-element-set-from-last Inv-loop2 μ-loop2 Inv-loop μ-loop
-element-set-from-last c = here (c .before .before .before .before .before .before .before .before .before .before .before .before)
+element-set-from-last c =
+    here (c .before .before .before .before .before .before .before .before .before .before .before .before)
 
 add-t : tie.Need-add-t Inv-loop2 μ-loop2 Inv-loop μ-loop
-add-t c = omega (
-  arith,
-  c .before .before .before .before .before .before .before .before .before .plan .ensures .gone-room,
-  until-end (c .before .before .before .before .before .before .before .before .before .before .before .before),
-  before-horizon
-      (settled (c .before .before .before .before .before .before .before .before .before .before .before .before)),
-)
-
-mul-ended : tie.Need-mul-ended Inv-loop2 μ-loop2 Inv-loop μ-loop
-mul-ended c = omega (
-  arith,
-  here
-      (c .before .before .before .before .before .before .before .before .before .before .before .before .before),
-)
-
-array-read-ended : tie.Need-array-read-ended Inv-loop2 μ-loop2 Inv-loop μ-loop
-array-read-ended c = here
-    (c .before .before .before .before .before .before .before .before .before .before .before .before .before)
-
-end-job-requires : tie.Need-end-job-requires Inv-loop2 μ-loop2 Inv-loop μ-loop
-end-job-requires c κs = (
-  accepted (began (settled
-      (c .before .before .before .before .before .before .before .before .before .before .before .before .before .before))),
-  (
+add-t c =
+    let o = c .before .before .before .before .before .before .before .before .before .before .before .before in
     omega (
       arith,
-      opened
-          (c .before .before .before .before .before .before .before .before .before .before .before .before .before .before) .0 .each _ (here (c .before .before .before .before .before .before .before .before .before .before .before .before .before .before)) .taken (opened (c .before .before .before .before .before .before .before .before .before .before .before .before .before .before) .1),
-      going (settled (c .before .before .before .before .before .before .before .before .before .before .before .before .before .before)) .stands .count,
-    ),
-    (
-      omega (
-        arith,
-        opened
-            (c .before .before .before .before .before .before .before .before .before .before .before .before .before .before) .0 .each _ (here (c .before .before .before .before .before .before .before .before .before .before .before .before .before .before)) .taken (opened (c .before .before .before .before .before .before .before .before .before .before .before .before .before .before) .1),
-        going (settled (c .before .before .before .before .before .before .before .before .before .before .before .before .before .before)) .stands .count,
-        finishes-long (fit (began (settled (c .before .before .before .before .before .before .before .before .before .before .before .before .before .before)))) (going (settled (c .before .before .before .before .before .before .before .before .before .before .before .before .before .before))),
-        long (began (settled (c .before .before .before .before .before .before .before .before .before .before .before .before .before .before))),
-      ),
+      c .before .before .before .before .before .before .before .before .before .plan .ensures .gone-room,
+      until-end o,
+      before-horizon (settled o),
+    )
+
+mul-ended : tie.Need-mul-ended Inv-loop2 μ-loop2 Inv-loop μ-loop
+mul-ended c =
+    omega (arith, here (c .before .before .before .before .before .before .before .before .before .before .before .before .before))
+
+array-read-ended : tie.Need-array-read-ended Inv-loop2 μ-loop2 Inv-loop μ-loop
+array-read-ended c =
+    here (c .before .before .before .before .before .before .before .before .before .before .before .before .before)
+
+end-job-requires : tie.Need-end-job-requires Inv-loop2 μ-loop2 Inv-loop μ-loop
+end-job-requires c κs =
+    let o = c .before .before .before .before .before .before .before .before .before .before .before .before .before .before
+    in (
+      accepted (began (settled o)),
       (
-        here (c .before .before .before .before .before .before .before .before .before .before .before .before .before .before),
+        omega (arith, opened o .0 .each _ (here o) .taken (opened o .1), going (settled o) .stands .count),
         (
-          omega (arith, c .before .before .before .before .before .before .before .before .before .before .before .plan .ensures .gone-room, until-end (c .before .before .before .before .before .before .before .before .before .before .before .before .before .before), ahead (c .before .before .before .before .before .before .before .before .before .before .before .before .before .before)),
+          omega (
+            arith,
+            opened o .0 .each _ (here o) .taken (opened o .1),
+            going (settled o) .stands .count,
+            finishes-long
+                (fit (began (settled o))) (going (settled o)),
+            long (began (settled o)),
+          ),
           (
-            omega (
-              arith,
-              finished-few
-                  (fit (began (settled (c .before .before .before .before .before .before .before .before .before .before .before .before .before .before)))) (going (settled (c .before .before .before .before .before .before .before .before .before .before .before .before .before .before))) _ (here (c .before .before .before .before .before .before .before .before .before .before .before .before .before .before)),
-            ),
-            omega (
-              arith,
-              total-few
-                  (fit (began (settled (c .before .before .before .before .before .before .before .before .before .before .before .before .before .before)))) (going (settled (c .before .before .before .before .before .before .before .before .before .before .before .before .before .before))) _ (here (c .before .before .before .before .before .before .before .before .before .before .before .before .before .before)),
-              c .before .before .before .before .before .before .before .before .before .before .before .plan .ensures .gone-room,
-              until-end (c .before .before .before .before .before .before .before .before .before .before .before .before .before .before),
-              ahead (c .before .before .before .before .before .before .before .before .before .before .before .before .before .before),
+            here o,
+            (
+              omega (
+                arith,
+                c .before .before .before .before .before .before .before .before .before .before .before .plan .ensures .gone-room,
+                until-end o,
+                ahead o,
+              ),
+              (
+                omega (arith, finished-few (fit (began (settled o))) (going (settled o)) _ (here o)),
+                omega (
+                  arith,
+                  total-few (fit (began (settled o))) (going (settled o)) _ (here o),
+                  c .before .before .before .before .before .before .before .before .before .before .before .plan .ensures .gone-room,
+                  until-end o,
+                  ahead o,
+                ),
+              ),
             ),
           ),
         ),
       ),
-    ),
-  ),
-)
+    )
 
 add-job : tie.Need-add-job Inv-loop2 μ-loop2 Inv-loop μ-loop
-add-job c = omega (
-  arith,
-  opened
-      (c .before .before .before .before .before .before .before .before .before .before .before .before .before .before .before .before .before) .0 .each _ (here (c .before .before .before .before .before .before .before .before .before .before .before .before .before .before .before .before .before)) .taken (opened (c .before .before .before .before .before .before .before .before .before .before .before .before .before .before .before .before .before) .1),
-  going (settled (c .before .before .before .before .before .before .before .before .before .before .before .before .before .before .before .before .before)) .stands .count,
-  fit (began (settled (c .before .before .before .before .before .before .before .before .before .before .before .before .before .before .before .before .before))) .arrivals,
-)
+add-job c =
+    let o = c .before .before .before .before .before .before .before .before .before .before .before .before .before .before .before .before .before in
+    omega (
+      arith,
+      opened o .0 .each _ (here o) .taken (opened o .1),
+      going (settled o) .stands .count,
+      fit
+          (began (settled o)) .arrivals,
+    )
 
 mul-job : tie.Need-mul-job Inv-loop2 μ-loop2 Inv-loop μ-loop
-mul-job c = omega (
-  arith,
-  here
-      (c .before .before .before .before .before .before .before .before .before .before .before .before .before .before .before .before .before),
-)
+mul-job c =
+    omega (arith, here (c .before .before .before .before .before .before .before .before .before .before .before .before .before .before .before .before .before))
 
 array-write-job : tie.Need-array-write-job Inv-loop2 μ-loop2 Inv-loop μ-loop
-array-write-job c = here
-    (c .before .before .before .before .before .before .before .before .before .before .before .before .before .before .before .before .before)
+array-write-job c =
+    here (c .before .before .before .before .before .before .before .before .before .before .before .before .before .before .before .before .before)
 
 loop-less-2 : tie.Need-loop-less-2 Inv-loop2 μ-loop2 Inv-loop μ-loop
-loop-less-2 c = omega
-    (arith, c .before .before .before .before .before .before .before .before .before .before .before .before .before .before .plan .ensures .some, c .before .before .before .before .before .before .before .before .before .before .before .before .before .before .plan .ensures .gone-is, c .before .before .before .before .before .before .before .before .before .before .before .before .before .before .before .before .before .before .before .before .before .before .before .loop-test .taken)
+loop-less-2 c =
+    omega (arith, c .before .before .before .before .before .before .before .before .before .before .before .before .before .before .plan .ensures .some, c .before .before .before .before .before .before .before .before .before .before .before .before .before .before .plan .ensures .gone-is, c .before .before .before .before .before .before .before .before .before .before .before .before .before .before .before .before .before .before .before .before .before .before .before .loop-test .taken)
 
 loop-again-2 : tie.Need-loop-again-2 Inv-loop2 μ-loop2 Inv-loop μ-loop
 loop-again-2 c =
+    let o = c .before .before .before .before .before .before .before .before .before .before .before .before .before .before .before .before .before in
     travels-with (c .before .before .end-job .ensures .0) (c .before .before .end-job .ensures .1)
-    (spell-ended (fit (began
-    (settled (c .before .before .before .before .before .before .before .before .before .before .before .before .before .before .before .before .before)))) (going (settled (c .before .before .before .before .before .before .before .before .before .before .before .before .before .before .before .before .before))) (ahead (c .before .before .before .before .before .before .before .before .before .before .before .before .before .before .before .before .before)) _ (here (c .before .before .before .before .before .before .before .before .before .before .before .before .before .before .before .before .before)) (c .before .before .before .before .before .before .before .before .before .before .before .before .before .before .before .before .before .before .before .before .if1 .left) refl (opened (c .before .before .before .before .before .before .before .before .before .before .before .before .before .before .before .before .before) .0) (opened (c .before .before .before .before .before .before .before .before .before .before .before .before .before .before .before .before .before) .1)
-    (c .before .before .before .before .before .before .before .before .before .before .before .before .before .before .plan .ensures)
-    (c .before .before .before .before .before .before .set-key .ensures)
-    (c .before .before .before .before .before .before .before .before .before .before .pass-through .ensures .0)
-    (c .before .before .before .before .before .before .before .before .before .before .pass-through .ensures .1 .0)
-    (c .before .before .before .before .before .before .before .before .before .before .pass-through .ensures .1 .1)
-    (long (began (settled
-    (c .before .before .before .before .before .before .before .before .before .before .before .before .before .before .before .before .before)))) (c .before .before .before .before .if2 .taken))
+    (spell-ended (fit (began (settled o))) (going (settled o)) (ahead o) _ (here o) (o .before .before .before .if1 .left)
+    refl (opened o .0) (opened o .1)
+    (c .before .before .before .before .before .before .before .before .before .before .before .before .before .before .plan .ensures) (c .before .before .before .before .before .before .set-key .ensures) (c .before .before .before .before .before .before .before .before .before .before .pass-through .ensures .0) (c .before .before .before .before .before .before .before .before .before .before .pass-through .ensures .1 .0) (c .before .before .before .before .before .before .before .before .before .before .pass-through .ensures .1 .1) (long (began (settled o))) (c .before .before .before .before .if2 .taken))
 
 loop-less-3 : tie.Need-loop-less-3 Inv-loop2 μ-loop2 Inv-loop μ-loop
-loop-less-3 c = omega (
-  arith,
-  c .before .before .before .before .before .before .before .before .before .before .plan .ensures .some,
-  c .before .before .before .before .before .before .before .before .before .before .plan .ensures .gone-is,
-  c .before .before .before .before .before .before .before .before .before .before .before .before .before .before .before .before .before .before .before .loop-test .taken,
-)
+loop-less-3 c =
+    omega (
+      arith,
+      c .before .before .before .before .before .before .before .before .before .before .plan .ensures .some,
+      c .before .before .before .before .before .before .before .before .before .before .plan .ensures .gone-is,
+      c .before .before .before .before .before .before .before .before .before .before .before .before .before .before .before .before .before .before .before .loop-test .taken,
+    )
 
 loop-again-3 : tie.Need-loop-again-3 Inv-loop2 μ-loop2 Inv-loop μ-loop
 loop-again-3 c =
-    spell-ran (fit (began
-    (settled (c .before .before .before .before .before .before .before .before .before .before .before .before .before))))
-    (going (settled (c .before .before .before .before .before .before .before .before .before .before .before .before .before))) (ahead (c .before .before .before .before .before .before .before .before .before .before .before .before .before)) _ (here (c .before .before .before .before .before .before .before .before .before .before .before .before .before)) (c .before .before .before .before .before .before .before .before .before .before .before .before .before .before .before .before .if1 .left) refl (opened (c .before .before .before .before .before .before .before .before .before .before .before .before .before) .0) (opened (c .before .before .before .before .before .before .before .before .before .before .before .before .before) .1)
+    let o = c .before .before .before .before .before .before .before .before .before .before .before .before .before in
+    spell-ran (fit (began (settled o))) (going (settled o)) (ahead o) _ (here o) (o .before .before .before .if1 .left) refl
+    (opened o .0) (opened o .1)
     (c .before .before .before .before .before .before .before .before .before .before .plan .ensures)
-    (c .before .before .set-key .ensures)
-    (c .before .before .before .before .before .before .pass-through .ensures .0)
+    (c .before .before .set-key .ensures) (c .before .before .before .before .before .before .pass-through .ensures .0)
     (c .before .before .before .before .before .before .pass-through .ensures .1 .0)
-    (c .before .before .before .before .before .before .pass-through .ensures .1 .1)
-    (c .if2 .left)
+    (c .before .before .before .before .before .before .pass-through .ensures .1 .1) (c .if2 .left)
 
 end-segment-requires : tie.Need-end-segment-requires Inv-loop2 μ-loop2 Inv-loop μ-loop
-end-segment-requires c κs = (
-  started (fit (c .before .before .before)) (c .before .before .loop .inv),
-  omega (
-    arith,
-    counted (fit (c .before .before .before)) (c .before .before .loop .inv),
-    before-end (fit (c .before .before .before))
-        (c .before .before .loop .inv),
-  ),
-)
+end-segment-requires c κs =
+    let s = c .before .before .before in (
+      started (fit s) (c .before .before .loop .inv),
+      omega
+          (arith, counted (fit s) (c .before .before .loop .inv), before-end (fit s) (c .before .before .loop .inv)),
+    )
 
 -- At the horizon.
 ended : (c : tie.After-slice-known7 Inv-loop2 μ-loop2 Inv-loop μ-loop) → work
-    (file (c .before .before .before .before .before .before)) .horizon .tick ≤ c .before .before .before .before .before .loop .t
-ended c = omega (
-  arith,
-  c .before .before .before .before .loop-test .left,
-  to-horizon
-      (c .before .before .before .before .before .before),
-)
+    (file (c .before .before .before .before .before .before)) .horizon .tick ≤
+    c .before .before .before .before .before .loop .t
+ended c =
+    omega (
+      arith,
+      c .before .before .before .before .loop-test .left,
+      to-horizon
+          (c .before .before .before .before .before .before),
+    )
 
 listed : (c : tie.After-slice-known7 Inv-loop2 μ-loop2 Inv-loop μ-loop) → c .before .before .end-segment .last .0 ≡ written
     (trace (history (work (file (c .before .before .before .before .before .before))))
     (work (file (c .before .before .before .before .before .before)) .horizon .tick))
     (lent (c .before .before .before .before .before .before))
-listed c = c .before .before .end-segment .ensures .1 ∙ list-whole (fit (c .before .before .before .before .before .before))
+listed c =
+    c .before .before .end-segment .ensures .1 ∙ list-whole (fit (c .before .before .before .before .before .before))
     (c .before .before .before .before .before .loop .inv) (ended c)
 
 finished : (c : tie.After-slice-known7 Inv-loop2 μ-loop2 Inv-loop μ-loop) →
@@ -582,37 +534,31 @@ finished : (c : tie.After-slice-known7 Inv-loop2 μ-loop2 Inv-loop μ-loop) →
     (finishes (work (file (c .before .before .before .before .before .before))))
     (ends (c .before .before .before .before .before .before))
 finished c =
-    finishes-whole (fit (c .before .before .before .before .before .before))
-    (c .before .before .before .before .before .loop .inv) (ended c)
-    ∙ ap (finishList (work (file (c .before .before .before .before .before .before)) .arrivals)
-    (finishes (work (file (c .before .before .before .before .before .before)))))
-    (all-open (c .before .before .before .before .before .before))
-    ∙ finishes-again (work (file (c .before .before .before .before .before .before)) .arrivals)
-    (finishes (work (file (c .before .before .before .before .before .before)))) (λ k. isOpen)
-    (ends (c .before .before .before .before .before .before))
+    let s = c .before .before .before .before .before .before in
+    finishes-whole (fit s) (c .before .before .before .before .before .loop .inv) (ended c) ∙ ap
+    (finishList (work (file s) .arrivals) (finishes (work (file s)))) (all-open s) ∙ finishes-again
+    (work (file s) .arrivals) (finishes (work (file s))) (λ k. isOpen) (ends s)
 
 same-length : tie.Need-same-length Inv-loop2 μ-loop2 Inv-loop μ-loop
-same-length c = ap length (listed c) ∙ written-length
-    (trace (history (work (file (c .before .before .before .before .before .before))))
-    (work (file (c .before .before .before .before .before .before)) .horizon .tick))
-    (lent (c .before .before .before .before .before .before))
+same-length c =
+    let s = c .before .before .before .before .before .before in
+    ap length (listed c) ∙ written-length (trace (history (work (file s))) (work (file s) .horizon .tick)) (lent s)
 
 same-length-2 : tie.Need-same-length-2 Inv-loop2 μ-loop2 Inv-loop μ-loop
-same-length-2 c = ap length (finished c) ∙ finishes-length
-    (work (file (c .before .before .before .before .before .before)) .arrivals)
-    (ends (c .before .before .before .before .before .before))
-    (finishes (work (file (c .before .before .before .before .before .before))))
+same-length-2 c =
+    let s = c .before .before .before .before .before .before in
+    ap length (finished c) ∙ finishes-length (work (file s) .arrivals) (ends s) (finishes (work (file s)))
 
 returns : tie.Need-returns Inv-loop2 μ-loop2 Inv-loop μ-loop
 returns c =
+    let s = c .before .before .before .before .before .before in
     record {
       list-is = listed c;
-      segments-is = c .before .before .end-segment .ensures .0 ∙ count-whole
-          (fit (c .before .before .before .before .before .before)) (c .before .before .before .before .before .loop .inv)
-          (ended c);
+      segments-is = c .before .before .end-segment .ensures .0 ∙ count-whole (fit s)
+          (c .before .before .before .before .before .loop .inv) (ended c);
       finishes-is = finished c;
-      records-are = λ counts each. records-whole (fit (c .before .before .before .before .before .before))
-          (c .before .before .before .before .before .loop .inv) (ended c) each;
+      records-are = λ counts
+          each. records-whole (fit s) (c .before .before .before .before .before .loop .inv) (ended c) each;
     }
 
 pub travel-spec : {M : Type 1} → statement M
