@@ -1,3 +1,4 @@
+pub mod GivenLaws
 pub mod MomentLaws
 pub mod Moments
 pub mod OneGo

@@ -42,3 +42,10 @@ mostWaiting = 4_294_967_295
 -- "or 4,294,967,295 for an open job"
 abbrev pub openJob : ℕ
 openJob = 4_294_967_295
+
+-- the day report "lends a trace of 8,192 numbers, so it shows at most 2,048 segments"
+abbrev pub traceNumbers : ℕ
+traceNumbers = 8_192
+
+abbrev pub mostShown : ℕ
+mostShown = 2_048

@@ -31,3 +31,6 @@ pub const MOST_WAITING: u64 = 4294967295;
 
 // What stands in the finish list for an open job.
 pub const OPEN_JOB: u32 = 4294967295;
+
+// The numbers of the trace list that the day report lends to a run, four for each segment that it shows.
+pub const TRACE_NUMBERS: usize = 8192;

@@ -1,3 +1,4 @@
+pub mod SegmentLaws
 pub mod Trace
 pub mod TraceLaws
 pub mod Written

@@ -4,4 +4,5 @@ pub mod JudgementLaws
 pub mod Layout
 pub mod LayoutLaws
 pub mod PassedLaws
+pub mod RefusedLaws
 pub mod Work

@@ -1,0 +1,67 @@
+-- `report::accepted` meets its promise: the parts of the report are added one behind the other.
+use borrow.Author.Needs.{needs}
+use Prim.Native.Nat.{ℕ}
+use lib.ListN.{getD}
+use mathlib.Core.Path.{ap, ap₂}
+use native.Mathlib.Omega.{arith}
+use Rattle.books.specs.Accepted.{frame-read, servers-read}
+use Rattle.clock.specs.declared.Length.{Length}
+use Rattle.report.specs.DayReport.{admittedLine, serverLine}
+use Rattle.report.specs.ReportLaws.{ends-long, report-told}
+use Rattle.summary.specs.Summary.{blank}
+use Rattle.text.specs.Line.{each}
+use Rattle.text.specs.PageLaws.{added-as}
+use Rattle.report.proofs.accepted.Statement.{statement}
+use Rattle.report.proofs.accepted.Tie as tie
+
+header-of-requires : tie.Need-header-of-requires
+header-of-requires c κs = search needs
+
+least-requires : tie.Need-least-requires
+least-requires c κs = search needs
+
+shares-requires : tie.Need-shares-requires
+shares-requires c κs = c .before .before .before .before .before .before .before .pre .accepted
+
+admitted-requires : tie.Need-admitted-requires
+admitted-requires c κs = search needs
+
+segment-lines-requires : tie.Need-segment-lines-requires
+segment-lines-requires c κs = omega (arith, c .before .before .before .before .before .before .least .ensures)
+
+segments-requires : tie.Need-segments-requires
+segments-requires c κs = search needs
+
+job-lines-requires : tie.Need-job-lines-requires
+job-lines-requires c κs = (c .before .before .before .before .before .before .before .before .before .before .before .before .before .before .before .before .before .before .before .before .pre .accepted, ends-long (c .before .before .before .before .before .before .before .before .before .before .before .before .before .before .before .before .before .before .before .before .pre))
+
+server-lines-requires : tie.Need-server-lines-requires
+server-lines-requires c κs = omega (arith, servers-read _ (c .before .before .before .before .before .before .before .before .before .before .before .before .before .before .before .before .before .before .before .header-of .ensures), c .before .before .before .before .before .before .before .before .before .before .before .before .before .before .before .before .before .before .before .before .before .before .before .before .pre .accepted .fit .servers)
+
+same-length : tie.Need-same-length
+same-length c = search needs
+
+returns : tie.Need-returns
+returns c =
+    let read = c .before .before .before .before .before .before .before .before .before .before .before .before .before .before .before .before .before .before .before .before .before .before .header-of .ensures in
+    report-told (c .before .before .before .before .before .before .before .before .before .before .before .before .before .before .before .before .before .before .before .before .before .before .before .before .before .before .before .pre) _ _ _ _ _ _ _ (c .before .before .before .before .before .before .before .before .before .before .before .before .before .before .before .before .before .before .before .before .before .least .ensures)
+    (added-as _ (ap₂ admittedLine (c .before .before .before .before .before .before .before .before .before .before .before .before .before .before .before .before .before .before .before .shares .ensures) (ap (λ (l : Length). l .ticks) (frame-read _ read))) (c .before .before .before .before .before .before .before .before .before .before .before .before .before .before .before .before .before .before .admitted .ensures))
+    (c .before .before .before .before .before .before .before .before .before .before .before .before .before .before .segment-lines .ensures)
+    (c .before .before .before .before .before .before .before .before .before .before .segments .ensures)
+    (c .before .before .before .before .before .before .job-lines .ensures)
+    (added-as _ (ap (λ (n : ℕ). each n (λ i. serverLine i (getD (c .before .before .before .before .before .before .before .before .before .before .before .before .before .before .before .before .before .before .before .before .before .before .before .before .before .before .before .args .records) i blank))) (servers-read _ read)) (c .before .before .server-lines .ensures))
+
+pub accepted-spec : {M : Type 1} → statement M
+accepted-spec =
+    tie.close
+    (tie.spec
+    header-of-requires
+    least-requires
+    shares-requires
+    admitted-requires
+    segment-lines-requires
+    segments-requires
+    job-lines-requires
+    server-lines-requires
+    same-length
+    returns)

@@ -1,0 +1,99 @@
+-- `report::job_lines` meets its promise: after k turns the lines of the first k jobs are added.
+use Prim.Native.Nat.{_-_, _≤_, _<_}
+use borrow.Author.Needs.{needs}
+use lib.ListN.{length, getD}
+use mathlib.Core.Path.{_≡_, _∙_, ap}
+use native.Mathlib.Omega.{arith}
+use Rattle.arrival.specs.declared.Arrival.{Arrival}
+use Rattle.books.specs.Accepted.{arrival-placed, arrival-read, arrivals-read}
+use Rattle.report.specs.DayReport.{jobWith}
+use Rattle.report.specs.Told.{finishOf, jobIn}
+use Rattle.text.specs.Line.{each}
+use Rattle.text.specs.Page.{Page, page, added}
+use Rattle.text.specs.PageLaws.{added-as, added-length, each-none, each-next, each-all}
+use Rattle.workfile.specs.Work.{work}
+use Rattle.report.proofs.job_lines.Statement.{statement}
+use Rattle.report.proofs.job_lines.Tie as tie
+
+abbrev Inv-loop : tie.InvT-loop
+Inv-loop text₀ next file finishes jobs offset at₀ k₀ text at k =
+    (k ≤ jobs) × (page text at ≡ added (each k (jobIn (work file) finishes)) (page text₀ next))
+
+abbrev μ-loop : tie.MeasureT-loop
+μ-loop text₀ next file finishes jobs offset at₀ k₀ text at k = jobs - k
+
+header-of-requires : tie.Need-header-of-requires Inv-loop μ-loop
+header-of-requires c κs = search needs
+
+loop-holds : tie.Need-loop-holds Inv-loop μ-loop
+loop-holds c = (omega arith, each-none _ _)
+
+-- at a turn: job k is one of the file's, which has few
+here : (c : tie.In-loop Inv-loop μ-loop) → c .before .loop .k < 4_096
+here c = omega (arith, c .loop-test .taken, arrivals-read _ (c .before .before .header-of .ensures), c .before .before .before .before .before .before .pre .0 .fit .arrivals)
+
+mul-arrival-at : tie.Need-mul-arrival-at Inv-loop μ-loop
+mul-arrival-at c = omega (arith, here c)
+
+add-arrival-at : tie.Need-add-arrival-at Inv-loop μ-loop
+add-arrival-at c =
+    let read = c .before .before .header-of .ensures in
+    omega (arith, here c, arrival-placed _ read (c .before .before .before .before .before .before .pre .0) (c .before .loop .k) (omega (arith, c .loop-test .taken, arrivals-read _ read)))
+
+arrival-at-requires : tie.Need-arrival-at-requires Inv-loop μ-loop
+arrival-at-requires c κs = search needs
+
+mul-job : tie.Need-mul-job Inv-loop μ-loop
+mul-job c = omega (arith, here (c .before .before))
+
+shared-slice-read-job : tie.Need-shared-slice-read-job Inv-loop μ-loop
+shared-slice-read-job c = omega (arith, here (c .before .before .before), c .before .before .before .before .before .before .before .before .before .pre .1)
+
+job-requires : tie.Need-job-requires Inv-loop μ-loop
+job-requires c κs = search needs
+
+add-k : tie.Need-add-k Inv-loop μ-loop
+add-k c = omega (arith, here (c .before .before .before .before .before .before))
+
+loop-less : tie.Need-loop-less Inv-loop μ-loop
+loop-less c = omega (arith, c .before .before .before .before .before .before .loop-test .taken)
+
+loop-again : tie.Need-loop-again Inv-loop μ-loop
+loop-again c =
+    let l = c .before .before .before .before .before .before .before .loop in
+    let finishes = c .before .before .before .before .before .before .before .before .before .before .before .before .args .finishes .now in (
+      omega (arith, c .before .before .before .before .before .before .loop-test .taken),
+      each-next _ (l .k) _ _ _ (l .inv .1)
+          (added-as _
+          (ap (λ (a : Arrival). jobWith a (l .k) (finishOf (getD finishes (l .k) 0)))
+          (c .before .before .before .before .before .arrival-at .ensures ∙ arrival-read _ (c .before .before .before .before .before .before .before .before .header-of .ensures) (l .k)))
+          (c .before .before .job .ensures)),
+    )
+
+same-length : tie.Need-same-length Inv-loop μ-loop
+same-length c = ap (λ (p : Page). length (p .text)) (c .before .loop .inv .1) ∙ added-length _ _
+
+returns : tie.Need-returns Inv-loop μ-loop
+returns c =
+    let read = arrivals-read _ (c .before .before .header-of .ensures) in
+    each-all _ _ _ _ _ (omega (arith, c .before .loop .inv .0, read)) (omega (arith, c .loop-test .left, read)) (c .before .loop .inv .1)
+
+pub job-lines-spec : {M : Type 1} → statement M
+job-lines-spec =
+    tie.close
+    (tie.spec
+    Inv-loop
+    μ-loop
+    header-of-requires
+    loop-holds
+    mul-arrival-at
+    add-arrival-at
+    arrival-at-requires
+    mul-job
+    shared-slice-read-job
+    job-requires
+    add-k
+    loop-less
+    loop-again
+    same-length
+    returns)

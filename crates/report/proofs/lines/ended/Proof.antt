@@ -1,0 +1,76 @@
+use borrow.Author.Needs.{needs}
+use mathlib.Core.List.{[], _∷_}
+use mathlib.Core.Path.{sym, _∙_, ap}
+use Rattle.clock.specs.declared.Length.{Length}
+use Rattle.finish.specs.Finish.{Finish}
+use Rattle.report.specs.DayReport.{finishFields}
+use Rattle.report.specs.ToldLaws.{finish-of-open, finish-of-at}
+use Rattle.text.specs.Line.{number, goesOn}
+use Rattle.text.specs.PageLaws.{added-as, added-then}
+use Rattle.report.proofs.lines.ended.Statement.{statement}
+use Rattle.report.proofs.lines.ended.Tie as tie
+
+slice-aggregate-add : tie.Need-slice-aggregate-add
+slice-aggregate-add c = search needs
+
+add-requires : tie.Need-add-requires
+add-requires c κs = search needs
+
+same-length : tie.Need-same-length
+same-length c = search needs
+
+returns : tie.Need-returns
+returns c =
+    added-as _ (ap (λ (f : Finish). goesOn (finishFields (c .before .before .before .before .before .before .before .args .arrived) f)) (sym (finish-of-open _ (c .before .before .before .before .before .if1 .taken)))) (c .before .before .add .ensures)
+
+until-requires : tie.Need-until-requires
+until-requires c κs = search needs
+
+slice-aggregate-add-numbered : tie.Need-slice-aggregate-add-numbered
+slice-aggregate-add-numbered c = search needs
+
+add-numbered-requires : tie.Need-add-numbered-requires
+add-numbered-requires c κs = search needs
+
+slice-aggregate-add-numbered-2 : tie.Need-slice-aggregate-add-numbered-2
+slice-aggregate-add-numbered-2 c = search needs
+
+add-numbered-requires-2 : tie.Need-add-numbered-requires-2
+add-numbered-requires-2 c κs = search needs
+
+slice-aggregate-add-2 : tie.Need-slice-aggregate-add-2
+slice-aggregate-add-2 c = search needs
+
+add-requires-2 : tie.Need-add-requires-2
+add-requires-2 c κs = search needs
+
+same-length-2 : tie.Need-same-length-2
+same-length-2 c = search needs
+
+returns-2 : tie.Need-returns-2
+returns-2 c =
+    let args = c .before .before .before .before .before .before .before .before .before .before .before .before .before .before .before .before .before .before .args in
+    added-as _
+    (ap (λ (l : Length). goesOn (number (args .finish) ∷ number (l .ticks) ∷ [])) (c .before .before .before .before .before .before .before .before .before .before .before .before .before .before .before .until .ensures)
+    ∙ ap (λ (f : Finish). goesOn (finishFields (args .arrived) f)) (sym (finish-of-at _ (c .before .before .before .before .before .before .before .before .before .before .before .before .before .before .before .before .if1 .left))))
+    (added-then _ _ _ (c .before .before .before .before .before .before .before .before .before .before .before .before .add-numbered .ensures)
+    (added-then _ _ _ (c .before .before .before .before .before .before .before .add-numbered2 .ensures)
+    (c .before .before .add2 .ensures)))
+
+pub ended-spec : {M : Type 1} → statement M
+ended-spec =
+    tie.close
+    (tie.spec
+    slice-aggregate-add
+    add-requires
+    same-length
+    returns
+    until-requires
+    slice-aggregate-add-numbered
+    add-numbered-requires
+    slice-aggregate-add-numbered-2
+    add-numbered-requires-2
+    slice-aggregate-add-2
+    add-requires-2
+    same-length-2
+    returns-2)

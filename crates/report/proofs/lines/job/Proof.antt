@@ -1,0 +1,49 @@
+use borrow.Author.Needs.{needs}
+use Rattle.text.specs.PageLaws.{added-then}
+use Rattle.report.proofs.lines.job.Statement.{statement}
+use Rattle.report.proofs.lines.job.Tie as tie
+
+slice-aggregate-add-numbered : tie.Need-slice-aggregate-add-numbered
+slice-aggregate-add-numbered c = search needs
+
+add-numbered-requires : tie.Need-add-numbered-requires
+add-numbered-requires c κs = search needs
+
+slice-aggregate-add-numbered-2 : tie.Need-slice-aggregate-add-numbered-2
+slice-aggregate-add-numbered-2 c = search needs
+
+add-numbered-requires-2 : tie.Need-add-numbered-requires-2
+add-numbered-requires-2 c κs = search needs
+
+slice-aggregate-add-numbered-3 : tie.Need-slice-aggregate-add-numbered-3
+slice-aggregate-add-numbered-3 c = search needs
+
+add-numbered-requires-3 : tie.Need-add-numbered-requires-3
+add-numbered-requires-3 c κs = search needs
+
+ended-requires : tie.Need-ended-requires
+ended-requires c κs = search needs
+
+same-length : tie.Need-same-length
+same-length c = search needs
+
+returns : tie.Need-returns
+returns c =
+    added-then _ _ _ (c .before .before .before .before .before .before .before .before .before .before .before .before .before .before .before .before .add-numbered .ensures)
+    (added-then _ _ _ (c .before .before .before .before .before .before .before .before .before .before .before .add-numbered2 .ensures)
+    (added-then _ _ _ (c .before .before .before .before .before .before .add-numbered3 .ensures)
+    (c .before .before .ended .ensures)))
+
+pub job-spec : {M : Type 1} → statement M
+job-spec =
+    tie.close
+    (tie.spec
+    slice-aggregate-add-numbered
+    add-numbered-requires
+    slice-aggregate-add-numbered-2
+    add-numbered-requires-2
+    slice-aggregate-add-numbered-3
+    add-numbered-requires-3
+    ended-requires
+    same-length
+    returns)

@@ -1,0 +1,104 @@
+use borrow.Author.Needs.{needs}
+use lib.ListN.{length}
+use mathlib.Core.Path.{_∙_, ap}
+use Rattle.report.specs.DayReport.{serverLine}
+use Rattle.text.specs.Page.{Page}
+use Rattle.text.specs.PageLaws.{added-length, added-then}
+use Rattle.report.proofs.lines.server.Statement.{statement}
+use Rattle.report.proofs.lines.server.Tie as tie
+
+slice-aggregate-add-numbered : tie.Need-slice-aggregate-add-numbered
+slice-aggregate-add-numbered c = search needs
+
+add-numbered-requires : tie.Need-add-numbered-requires
+add-numbered-requires c κs = search needs
+
+slice-aggregate-add-numbered-2 : tie.Need-slice-aggregate-add-numbered-2
+slice-aggregate-add-numbered-2 c = search needs
+
+add-numbered-requires-2 : tie.Need-add-numbered-requires-2
+add-numbered-requires-2 c κs = search needs
+
+slice-aggregate-add-numbered-3 : tie.Need-slice-aggregate-add-numbered-3
+slice-aggregate-add-numbered-3 c = search needs
+
+add-numbered-requires-3 : tie.Need-add-numbered-requires-3
+add-numbered-requires-3 c κs = search needs
+
+slice-aggregate-add : tie.Need-slice-aggregate-add
+slice-aggregate-add c = search needs
+
+add-requires : tie.Need-add-requires
+add-requires c κs = search needs
+
+total-requires : tie.Need-total-requires
+total-requires c κs = search needs
+
+slice-aggregate-add-2 : tie.Need-slice-aggregate-add-2
+slice-aggregate-add-2 c = search needs
+
+add-requires-2 : tie.Need-add-requires-2
+add-requires-2 c κs = search needs
+
+longest-requires : tie.Need-longest-requires
+longest-requires c κs = search needs
+
+slice-aggregate-add-numbered-4 : tie.Need-slice-aggregate-add-numbered-4
+slice-aggregate-add-numbered-4 c = search needs
+
+add-numbered-requires-4 : tie.Need-add-numbered-requires-4
+add-numbered-requires-4 c κs = search needs
+
+slice-aggregate-add-numbered-5 : tie.Need-slice-aggregate-add-numbered-5
+slice-aggregate-add-numbered-5 c = search needs
+
+add-numbered-requires-5 : tie.Need-add-numbered-requires-5
+add-numbered-requires-5 c κs = search needs
+
+slice-aggregate-add-3 : tie.Need-slice-aggregate-add-3
+slice-aggregate-add-3 c = search needs
+
+add-requires-3 : tie.Need-add-requires-3
+add-requires-3 c κs = search needs
+
+returns : tie.Need-returns
+unfolding serverLine
+returns c =
+    added-then _ _ _ (c .before .before .before .before .before .before .before .before .before .before .before .before .before .before .before .before .before .before .before .before .before .before .before .before .before .before .before .before .before .before .before .before .before .before .before .before .before .before .before .before .before .before .before .before .before .add-numbered .ensures)
+    (added-then _ _ _ (c .before .before .before .before .before .before .before .before .before .before .before .before .before .before .before .before .before .before .before .before .before .before .before .before .before .before .before .before .before .before .before .before .before .before .before .before .before .before .before .before .add-numbered2 .ensures)
+    (added-then _ _ _ (c .before .before .before .before .before .before .before .before .before .before .before .before .before .before .before .before .before .before .before .before .before .before .before .before .before .before .before .before .before .before .before .before .before .before .before .add-numbered3 .ensures)
+    (added-then _ _ _ (c .before .before .before .before .before .before .before .before .before .before .before .before .before .before .before .before .before .before .before .before .before .before .before .before .before .before .before .before .before .before .add .ensures)
+    (added-then _ _ _ (c .before .before .before .before .before .before .before .before .before .before .before .before .before .before .before .before .before .before .before .before .before .before .before .before .before .before .total .ensures)
+    (added-then _ _ _ (c .before .before .before .before .before .before .before .before .before .before .before .before .before .before .before .before .before .before .before .before .before .add2 .ensures)
+    (added-then _ _ _ (c .before .before .before .before .before .before .before .before .before .before .before .before .before .before .before .before .before .longest .ensures)
+    (added-then _ _ _ (c .before .before .before .before .before .before .before .before .before .before .before .before .add-numbered4 .ensures)
+    (added-then _ _ _ (c .before .before .before .before .before .before .before .add-numbered5 .ensures)
+    (c .before .before .add3 .ensures)))))))))
+
+same-length : tie.Need-same-length
+same-length c = ap (λ (p : Page). length (p .text)) (returns c) ∙ added-length _ _
+
+pub server-spec : {M : Type 1} → statement M
+server-spec =
+    tie.close
+    (tie.spec
+    slice-aggregate-add-numbered
+    add-numbered-requires
+    slice-aggregate-add-numbered-2
+    add-numbered-requires-2
+    slice-aggregate-add-numbered-3
+    add-numbered-requires-3
+    slice-aggregate-add
+    add-requires
+    total-requires
+    slice-aggregate-add-2
+    add-requires-2
+    longest-requires
+    slice-aggregate-add-numbered-4
+    add-numbered-requires-4
+    slice-aggregate-add-numbered-5
+    add-numbered-requires-5
+    slice-aggregate-add-3
+    add-requires-3
+    same-length
+    returns)

@@ -1,0 +1,100 @@
+-- What the lists of a run tell is what the run defines.
+use Prim.Native.Nat.{ℕ, zero, suc, _+_, _*_, _/_, _≤_, _<_, min}
+use borrow.Author.Tests.{eq-eqb, ne-eqb, le-leb, lt-leb, lt-ltb}
+use lib.Dec.{ltb}
+use lib.ListN.{length, take, getD, length-take}
+use lib.Seq.{take-suc}
+use mathlib.Core.Bool.{cond}
+use mathlib.Core.List.{List, [], _∷_, _++_, append-nil, append-assoc}
+use mathlib.Core.Path.{_≡_, refl, sym, _∙_, ap, ap₂}
+use native.Mathlib.Decide.{decLt}
+use native.Mathlib.Nat.{le-of-suc-le-suc, not-suc-le-zero}
+use native.Mathlib.Omega.{arith}
+use Rattle.counting.specs.Places.{getD-places}
+use Rattle.finish.specs.Finish.{Finish, isOpen, at, shown, servedBy, firstServed, finishList}
+use Rattle.history.specs.Choice.{History}
+use Rattle.moments.specs.Moments.{history}
+use Rattle.sizes.specs.Sizes.{clockEnd, mostArrivals, mostServers, mostShown, openJob, traceNumbers}
+use Rattle.summary.specs.Summary.{blank, finishes, summaries, summaryOf}
+use Rattle.text.specs.Line.{each}
+use Rattle.text.specs.LineLaws.{each-same}
+use Rattle.trace.specs.declared.Segment.{Segment}
+use Rattle.trace.specs.Written.{written}
+use Rattle.workfile.specs.Work.{Work}
+use Rattle.report.specs.DayReport.{jobWith, jobLine, segmentLine, segmentLines, serverLine}
+use Rattle.report.specs.Told.{finishOf, jobIn, segmentIn}
+
+pub finish-of-open : (n : ℕ) → n ≡ openJob → finishOf n ≡ isOpen
+finish-of-open n e = rw (eq-eqb n openJob e)
+
+pub finish-of-at : (n : ℕ) → (n ≡ openJob → ⊥) → finishOf n ≡ at n
+finish-of-at n e = rw (ne-eqb n openJob e)
+
+-- a finish up to a horizon is told by its number
+finish-told : (h : History) (i work N : ℕ) → N ≤ clockEnd → finishOf (shown (servedBy h i work N)) ≡ servedBy h i work N
+unfolding servedBy
+finish-told h i work N few = go (decLt N (firstServed h i work N))
+  where
+    go : Dec (N < firstServed h i work N) → finishOf (shown (servedBy h i work N)) ≡ servedBy h i work N
+    go (yes late) = rw (lt-leb (firstServed h i work N) N late)
+    go (no early) =
+        rw (le-leb (firstServed h i work N) N (omega arith)) (finish-of-at (firstServed h i work N) (λ e. omega arith))
+
+-- place k of the finish list
+place-of : (m : ℕ) (f : ℕ → Finish) (before : List ℕ) (k : ℕ) → k < m → m ≤ length before
+    → getD (finishList m f before) k 0 ≡ shown (f k)
+unfolding finishList
+place-of m f before k b long =
+    getD-places (length before) (λ j. cond (ltb j m) (shown (f j)) (getD before j 0)) k 0 (omega arith) ∙ rw (lt-ltb k m b)
+
+-- the job lines by the finish list are those of the run
+pub jobs-told : (w : Work) (before : List ℕ) → w .horizon .tick ≤ clockEnd → w .arrivals ≤ length before
+    → each (w .arrivals) (jobIn w (finishList (w .arrivals) (finishes w) before)) ≡ each (w .arrivals) (jobLine w)
+unfolding jobLine
+jobs-told w before few long =
+    each-same (w .arrivals) (jobIn w (finishList (w .arrivals) (finishes w) before)) (jobLine w)
+    (λ k b. ap (λ (n : ℕ). jobWith (w .arrival k) k (finishOf n)) (place-of (w .arrivals) (finishes w) before k b long)
+    ∙ ap (jobWith (w .arrival k) k) (finish-told (history w) _ _ (w .horizon .tick) few))
+
+-- the server lines by the records are those of the run
+pub servers-told : (w : Work) → w .table .count ≤ mostServers
+    → each (w .table .count) (λ i. serverLine i (getD (summaries w) i blank)) ≡ each (w .table .count) (λ i. serverLine i (summaryOf w i))
+unfolding summaries
+servers-told w few =
+    each-same (w .table .count) (λ i. serverLine i (getD (summaries w) i blank)) (λ i. serverLine i (summaryOf w i))
+    (λ i b. ap (serverLine i) (getD-places mostServers _ i blank (omega arith) ∙ rw (lt-ltb i (w .table .count) b)))
+
+-- segment k stands in the list where it fits
+segment-at : (tr : List Segment) (list : List ℕ) (k : ℕ) (d : Segment) → k < length tr → 4 * k + 4 ≤ length list
+    → segmentIn (written tr list) k ≡ getD tr k d
+unfolding written
+segment-at [] list k d h fits = absurd (not-suc-le-zero h)
+segment-at (s ∷ tr) [] k d h fits = let no : ⊥ = omega arith in absurd no
+segment-at (s ∷ tr) (a ∷ []) k d h fits = let no : ⊥ = omega arith in absurd no
+segment-at (s ∷ tr) (a ∷ b ∷ []) k d h fits = let no : ⊥ = omega arith in absurd no
+segment-at (s ∷ tr) (a ∷ b ∷ c ∷ []) k d h fits = let no : ⊥ = omega arith in absurd no
+segment-at (s ∷ tr) (a ∷ b ∷ c ∷ e ∷ list) zero d h fits = refl
+segment-at (s ∷ tr) (a ∷ b ∷ c ∷ e ∷ list) (suc k) d h fits =
+    rw (four 1, four 2, four 3, none) (segment-at tr list k d (le-of-suc-le-suc h) (omega arith))
+  where
+    four : (n : ℕ) → 4 * suc k + n ≡ suc (suc (suc (suc (4 * k + n))))
+    four n = omega arith
+
+    none : 4 * suc k ≡ suc (suc (suc (suc (4 * k))))
+    none = omega arith
+
+segment-lines-last : (l : List Segment) (s : Segment) → segmentLines (l ++ s ∷ []) ≡ segmentLines l ++ segmentLine s
+unfolding segmentLines
+segment-lines-last [] s = append-nil (segmentLine s)
+segment-lines-last (x ∷ l) s =
+    ap (λ (m : List ℕ). segmentLine x ++ m) (segment-lines-last l s) ∙ sym (append-assoc (segmentLine x) (segmentLines l) (segmentLine s))
+
+-- the segment lines by the trace list are those of the first segments
+pub segments-told : (tr : List Segment) (list : List ℕ) (n : ℕ) → n ≤ length tr → 4 * n ≤ length list
+    → each n (λ k. segmentLine (segmentIn (written tr list) k)) ≡ segmentLines (take n tr)
+unfolding each segmentLines
+segments-told tr list zero h fits = refl
+segments-told tr list (suc n) h fits =
+    ap₂ _++_ (segments-told tr list n (omega arith) (omega arith)) (ap segmentLine (segment-at tr list n (segmentIn [] 0) h (omega arith)))
+    ∙ sym (segment-lines-last (take n tr) (getD tr n (segmentIn [] 0)))
+    ∙ ap segmentLines (sym (take-suc tr n (segmentIn [] 0) h))

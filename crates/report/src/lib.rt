@@ -1,0 +1,179 @@
+// The day report of a work file, as text in a lent buffer.
+mod lines;
+
+ghost use Prim.Native.Nat.{_+_, _*_, _≤_, min};
+ghost use lib.ListN.{length, getD};
+ghost use mathlib.Core.Path.{_≡_};
+ghost use Rattle.booking.specs.Admission.{shares};
+ghost use Rattle.books.specs.Accepted.{Accepted};
+ghost use Rattle.report.specs.DayReport.{acceptedReport, dayReport, segmentLine, serverLine};
+ghost use Rattle.report.specs.Told.{Told, jobIn, segmentIn, traceOf};
+ghost use Rattle.sizes.specs.Sizes.{mostArrivals, mostServers, traceNumbers};
+ghost use Rattle.summary.specs.Summary.{blank};
+ghost use Rattle.text.specs.Line.{each};
+ghost use Rattle.text.specs.Page.{added, page};
+ghost use Rattle.workfile.specs.Work.{work};
+use clock::Length;
+use clock::Moment;
+use refusal::Verdict;
+use summary::Summary;
+use trace::Segment;
+
+// No report is longer (`report-fits` of specs/LengthLaws.antt).
+pub const MOST_BYTES: usize = 262144;
+
+// The day report of a file, from the start of the text on, as much of it as fits. Answers how many bytes that is.
+pub fn day_report(file: &[u8], text: &mut [u8]) -> usize
+    ensures { λ r. ⌜ page (now (text .exit)) r ≡ added (dayReport (now (file .entry))) (page (now (text .entry)) 0) ⌝ }
+{
+    let mut list = trace_list();
+    let mut finishes = finish_list();
+    report_with(file, &mut list, &mut finishes, text)
+}
+
+// The contracts give the lengths, which lending the arrays needs.
+fn trace_list() -> [u64; sizes::TRACE_NUMBERS]
+    ensures { λ r. ⌜ traceNumbers ≡ length r ⌝ }
+{
+    [0; sizes::TRACE_NUMBERS]
+}
+
+fn finish_list() -> [u32; sizes::MOST_ARRIVALS]
+    ensures { λ r. ⌜ mostArrivals ≡ length r ⌝ }
+{
+    [0; sizes::MOST_ARRIVALS]
+}
+
+// The report, with the lists that are lent to the run.
+fn report_with(file: &[u8], list: &mut [u64], finishes: &mut [u32], text: &mut [u8]) -> usize
+    requires { ⌜ length (now list) ≡ traceNumbers ⌝ }
+    requires { ⌜ length (now finishes) ≡ mostArrivals ⌝ }
+    ensures { λ r. ⌜ page (now (text .exit)) r ≡ added (dayReport (now (file .entry))) (page (now (text .entry)) 0) ⌝ }
+{
+    let ran = run::run(file, list, finishes);
+    let verdict = ran.verdict;
+    let summaries = ran.summaries;
+    match verdict {
+        Verdict::Accepted => accepted(file, list, finishes, ran.segments, summaries, text),
+        Verdict::Refused(why) => lines::refused(text, 0, why),
+    }
+}
+
+// The report of an accepted file, from what the run left.
+fn accepted(
+    file: &[u8],
+    list: &[u64],
+    finishes: &[u32],
+    segments: usize,
+    records: [Summary; sizes::MOST_SERVERS],
+    text: &mut [u8],
+) -> usize
+    requires { ⌜ Told (now file) (now list) (now finishes) segments records ⌝ }
+    ensures { λ r. ⌜ page (now (text .exit)) r ≡ added (acceptedReport (work (now (file .entry))) (traceOf (work (now (file .entry))))) (page (now (text .entry)) 0) ⌝ }
+{
+    let h = workfile::header_of(file);
+    let shown = least(segments, list.len() / 4);
+    let mut at = lines::admitted(text, 0, shares(file), h.frame);
+    at = segment_lines(text, at, list, shown);
+    at = lines::segments(text, at, segments, shown);
+    at = job_lines(text, at, file, finishes);
+    server_lines(text, at, records, h.servers.count)
+}
+
+fn least(a: usize, b: usize) -> usize
+    ensures { λ r. ⌜ r ≡ min a b ⌝ }
+{
+    if a < b { a } else { b }
+}
+
+// The sum of the shares of an accepted file's table.
+fn shares(file: &[u8]) -> Length
+    requires { ⌜ Accepted (now file) ⌝ }
+    ensures { λ r. ⌜ r .ticks ≡ shares (work (now (file .entry)) .frame) (work (now (file .entry)) .table) ⌝ }
+{
+    let h = workfile::header_of(file);
+    let servers = h.servers.count;
+    let offset = h.servers.offset;
+    let mut sum = 0;
+    let mut k = 0;
+    while k < servers {
+        let found = booking::share_of(
+            h.frame,
+            workfile::booking_at(file, offset + sizes::SERVER_BYTES * k),
+        );
+        sum += found.share.ticks;
+        k += 1;
+    }
+    Length { ticks: sum }
+}
+
+// The lines of the first segments of a trace list.
+fn segment_lines(text: &mut [u8], next: usize, list: &[u64], shown: usize) -> usize
+    requires { ⌜ 4 * shown ≤ length (now list) ⌝ }
+    ensures { λ r. ⌜ page (now (text .exit)) r ≡ added (each shown (λ k. segmentLine (segmentIn (now (list .entry)) k))) (page (now (text .entry)) next) ⌝ }
+{
+    let mut at = next;
+    let mut k = 0;
+    while k < shown {
+        let s = segment_in(list, k);
+        at = lines::segment(text, at, s);
+        k += 1;
+    }
+    at
+}
+
+// Segment k of a trace list.
+fn segment_in(list: &[u64], k: usize) -> Segment
+    requires { ⌜ 4 * k + 4 ≤ length (now list) ⌝ }
+    ensures { λ r. ⌜ r ≡ segmentIn (now (list .entry)) k ⌝ }
+{
+    let place = 4 * k;
+    let start = list[place];
+    let length = list[place + 1];
+    let server = list[place + 2] as usize;
+    let deadline = list[place + 3];
+    Segment {
+        start: Moment { tick: start },
+        length: Length { ticks: length },
+        server,
+        deadline: Moment { tick: deadline },
+    }
+}
+
+// The lines of all jobs of an accepted file.
+fn job_lines(text: &mut [u8], next: usize, file: &[u8], finishes: &[u32]) -> usize
+    requires { ⌜ Accepted (now file) ⌝ }
+    requires { ⌜ length (now finishes) ≡ mostArrivals ⌝ }
+    ensures { λ r. ⌜ page (now (text .exit)) r ≡ added (each (work (now (file .entry)) .arrivals) (jobIn (work (now (file .entry))) (now (finishes .entry)))) (page (now (text .entry)) next) ⌝ }
+{
+    let h = workfile::header_of(file);
+    let jobs = h.arrivals.count;
+    let offset = h.arrivals.offset;
+    let mut at = next;
+    let mut k = 0;
+    while k < jobs {
+        let a = workfile::arrival_at(file, offset + sizes::ARRIVAL_BYTES * k);
+        at = lines::job(text, at, k, a, finishes[k]);
+        k += 1;
+    }
+    at
+}
+
+// The lines of the first servers.
+fn server_lines(
+    text: &mut [u8],
+    next: usize,
+    records: [Summary; sizes::MOST_SERVERS],
+    servers: usize,
+) -> usize
+    requires { ⌜ servers ≤ mostServers ⌝ }
+    ensures { λ r. ⌜ page (now (text .exit)) r ≡ added (each servers (λ i. serverLine i (getD records i blank))) (page (now (text .entry)) next) ⌝ }
+{
+    let mut at = next;
+    let mut i = 0;
+    while i < servers {
+        at = lines::server(text, at, i, records[i]);
+        i += 1;
+    }
+    at
+}

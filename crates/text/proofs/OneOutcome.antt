@@ -1,0 +1,24 @@
+-- Each promise of this crate allows one outcome: the text at exit and the next place are given whole.
+use mathlib.Core.Path.{_≡_, ap}
+use Rattle.outcome.specs.OneOutcome.{OneOutcomeLent, both-are}
+use Rattle.text.specs.Page.{Page}
+use Rattle.text.proofs.add.Reads as add
+use Rattle.text.proofs.add_byte.Reads as add-byte
+use Rattle.text.proofs.add_number.Reads as add-number
+use Rattle.text.proofs.add_numbered.Reads as add-numbered
+
+-- two pages that are one have one next place and one text
+apart : {p q : Page} → p ≡ q → (p .next ≡ q .next) × (p .text ≡ q .text)
+apart e = (ap (λ (p : Page). p .next) e, ap (λ (p : Page). p .text) e)
+
+pub add-byte-one : OneOutcomeLent add-byte.Post (λ l e. e .0 .now)
+add-byte-one l a x y at-x at-y p q = apart (both-are p q)
+
+pub add-one : OneOutcomeLent add.Post (λ l e. e .0 .now)
+add-one l a x y at-x at-y p q = apart (both-are p q)
+
+pub add-number-one : OneOutcomeLent add-number.Post (λ l e. e .0 .now)
+add-number-one l a x y at-x at-y p q = apart (both-are p q)
+
+pub add-numbered-one : OneOutcomeLent add-numbered.Post (λ l e. e .0 .now)
+add-numbered-one l a x y at-x at-y p q = apart (both-are p q)

@@ -1,0 +1,5 @@
+pub mod LengthLaws
+pub mod Line
+pub mod LineLaws
+pub mod Page
+pub mod PageLaws
