@@ -1,0 +1,68 @@
+// Writes what the plain report says of generated work files: FOLDER/0000.expected beside FOLDER/0000, and so on.
+//
+//     expected FOLDER FIRST STEP
+//
+// It takes the files FIRST, FIRST + STEP, FIRST + 2 * STEP .. until one is missing, so several can share the work. Starting one
+// program for each file would take longer than the reports where an emulator runs it.
+
+#define WITHOUT_MAIN
+#include "report.c"
+
+int open(const char *path, int flags, ...);
+int close(int file);
+
+enum { READ = 0, WRITE_NEW = 01 | 0100 | 01000 }; // O_RDONLY; O_WRONLY, O_CREAT and O_TRUNC on x86-64 Linux
+
+static char path[4096];
+
+static u64 number_of(const char *digits)
+{
+    u64 number = 0;
+    while (*digits)
+        number = number * 10 + (u64)(*digits++ - '0');
+    return number;
+}
+
+// FOLDER/NNNN and an ending. Answers whether it fits.
+static int set_path(const char *folder, u64 number, const char *ending)
+{
+    u64 at = 0;
+    while (*folder && at < sizeof path - 32)
+        path[at++] = *folder++;
+    path[at++] = '/';
+    for (u64 unit = 1000; unit > 0; unit /= 10)
+        path[at++] = '0' + number / unit % 10;
+    while (*ending)
+        path[at++] = *ending++;
+    path[at] = 0;
+    return !*folder;
+}
+
+static int write_expected(const char *folder, u64 number)
+{
+    if (!set_path(folder, number, ".expected"))
+        return 0;
+    int out = open(path, WRITE_NEW, 0644);
+    if (out < 0)
+        return 0;
+    int written = write_text(out);
+    return close(out) == 0 && written;
+}
+
+int main(int count, char **arguments)
+{
+    if (count != 4 || number_of(arguments[3]) == 0)
+        return 2;
+    const char *folder = arguments[1];
+    u64 step = number_of(arguments[3]);
+    for (u64 number = number_of(arguments[2]);; number += step) {
+        int in = set_path(folder, number, "") ? open(path, READ) : -1;
+        if (in < 0)
+            return 0; // the caller sees by its own count whether one is missing
+        int got = read_file(in);
+        close(in);
+        report();
+        if (!got || !write_expected(folder, number))
+            return 1;
+    }
+}

@@ -1,0 +1,38 @@
+# Read by the scripts that need the toolchain's own compiler or emulator (POSIX sh): finds the toolchain, and says how a
+# program compiled for x86-64 is started here. It sets
+#   own        the toolchain's folder for this kind of machine
+#   start      a function: start PROGRAM [ARG..] becomes an x86-64 program, so a script that goes on calls it in ( )
+# and ends the script with status 2 and one line where that cannot be.
+
+fail() {
+	echo "$0: $*" >&2
+	exit 2
+}
+
+# `rt doc` prints the path of a page two folders below the toolchain's own top.
+command -v rt >/dev/null || fail "the Rattle toolchain is missing: no command rt"
+home=$(rt doc) && home=$(dirname "$(dirname "$home")") || fail "rt doc does not say where the toolchain is"
+machine=$(uname -m)
+own=$home/on/$machine
+[ -d "$own/toolchain" ] || fail "the Rattle toolchain has nothing for this kind of machine, $machine"
+
+# The emulator takes settings from these; a run here must not depend on them.
+for name in $(env | sed -n 's/^\(QEMU_[A-Za-z0-9_]*\)=.*/\1/p'); do
+	unset "$name"
+done
+
+case $machine in
+x86_64)
+	if [ -e /lib64/ld-linux-x86-64.so.2 ]; then
+		start() { exec "$@"; }
+	else
+		start() { exec "$own/toolchain/lib/ld-linux-x86-64.so.2" --library-path "$own/toolchain/lib" "$@"; }
+	fi
+	;;
+aarch64)
+	start() {
+		exec "$own/toolchain/bin/qemu-x86_64" "$own/toolchain/lib/ld-linux-x86-64.so.2" --library-path "$own/toolchain/lib" "$@"
+	}
+	;;
+*) fail "no way is known to run an x86-64 program on $machine" ;;
+esac
