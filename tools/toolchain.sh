@@ -30,6 +30,9 @@ x86_64)
 	fi
 	;;
 aarch64)
+	# The emulator moves memory byte by byte where the C library uses `rep movsb`; with this setting it copies by vectors.
+	GLIBC_TUNABLES=glibc.cpu.x86_rep_movsb_threshold=16777216
+	export GLIBC_TUNABLES
 	start() {
 		exec "$own/toolchain/bin/qemu-x86_64" "$own/toolchain/lib/ld-linux-x86-64.so.2" --library-path "$own/toolchain/lib" "$@"
 	}

@@ -23,7 +23,7 @@ abbrev μ-loop : tie.MeasureT-loop
 μ-loop text₀ next file finishes jobs offset at₀ k₀ text at k = jobs - k
 
 header-of-requires : tie.Need-header-of-requires Inv-loop μ-loop
-header-of-requires c κs = search needs
+header-of-requires c κs = tt
 
 loop-holds : tie.Need-loop-holds Inv-loop μ-loop
 loop-holds c = (omega arith, each-none _ _)
@@ -41,7 +41,7 @@ add-arrival-at c =
     omega (arith, here c, arrival-placed _ read (c .before .before .before .before .before .before .pre .0) (c .before .loop .k) (omega (arith, c .loop-test .taken, arrivals-read _ read)))
 
 arrival-at-requires : tie.Need-arrival-at-requires Inv-loop μ-loop
-arrival-at-requires c κs = search needs
+arrival-at-requires c κs = tt
 
 mul-job : tie.Need-mul-job Inv-loop μ-loop
 mul-job c = omega (arith, here (c .before .before))
@@ -50,7 +50,7 @@ shared-slice-read-job : tie.Need-shared-slice-read-job Inv-loop μ-loop
 shared-slice-read-job c = omega (arith, here (c .before .before .before), c .before .before .before .before .before .before .before .before .before .pre .1)
 
 job-requires : tie.Need-job-requires Inv-loop μ-loop
-job-requires c κs = search needs
+job-requires c κs = tt
 
 add-k : tie.Need-add-k Inv-loop μ-loop
 add-k c = omega (arith, here (c .before .before .before .before .before .before))

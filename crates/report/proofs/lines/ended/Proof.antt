@@ -1,6 +1,6 @@
 use borrow.Author.Needs.{needs}
 use mathlib.Core.List.{[], _∷_}
-use mathlib.Core.Path.{sym, _∙_, ap}
+use mathlib.Core.Path.{refl, sym, _∙_, ap}
 use Rattle.clock.specs.declared.Length.{Length}
 use Rattle.finish.specs.Finish.{Finish}
 use Rattle.report.specs.DayReport.{finishFields}
@@ -11,10 +11,10 @@ use Rattle.report.proofs.lines.ended.Statement.{statement}
 use Rattle.report.proofs.lines.ended.Tie as tie
 
 slice-aggregate-add : tie.Need-slice-aggregate-add
-slice-aggregate-add c = search needs
+slice-aggregate-add c = refl
 
 add-requires : tie.Need-add-requires
-add-requires c κs = search needs
+add-requires c κs = tt
 
 same-length : tie.Need-same-length
 same-length c = search needs
@@ -24,25 +24,25 @@ returns c =
     added-as _ (ap (λ (f : Finish). goesOn (finishFields (c .before .before .before .before .before .before .before .args .arrived) f)) (sym (finish-of-open _ (c .before .before .before .before .before .if1 .taken)))) (c .before .before .add .ensures)
 
 until-requires : tie.Need-until-requires
-until-requires c κs = search needs
+until-requires c κs = tt
 
 slice-aggregate-add-numbered : tie.Need-slice-aggregate-add-numbered
-slice-aggregate-add-numbered c = search needs
+slice-aggregate-add-numbered c = refl
 
 add-numbered-requires : tie.Need-add-numbered-requires
-add-numbered-requires c κs = search needs
+add-numbered-requires c κs = tt
 
 slice-aggregate-add-numbered-2 : tie.Need-slice-aggregate-add-numbered-2
-slice-aggregate-add-numbered-2 c = search needs
+slice-aggregate-add-numbered-2 c = refl
 
 add-numbered-requires-2 : tie.Need-add-numbered-requires-2
-add-numbered-requires-2 c κs = search needs
+add-numbered-requires-2 c κs = tt
 
 slice-aggregate-add-2 : tie.Need-slice-aggregate-add-2
-slice-aggregate-add-2 c = search needs
+slice-aggregate-add-2 c = refl
 
 add-requires-2 : tie.Need-add-requires-2
-add-requires-2 c κs = search needs
+add-requires-2 c κs = tt
 
 same-length-2 : tie.Need-same-length-2
 same-length-2 c = search needs

@@ -1,5 +1,5 @@
 use borrow.Author.Needs.{needs}
-use mathlib.Core.Path.{sym, ap}
+use mathlib.Core.Path.{refl, sym, ap}
 use Rattle.report.specs.DayReport.{longestField}
 use Rattle.summary.specs.declared.Response.{Response}
 use Rattle.text.specs.Line.{bytesOf}
@@ -11,16 +11,16 @@ enum-told : tie.Need-enum-told
 enum-told c = search needs
 
 slice-aggregate-add : tie.Need-slice-aggregate-add
-slice-aggregate-add c = search needs
+slice-aggregate-add c = refl
 
 add-requires : tie.Need-add-requires
-add-requires c κs = search needs
+add-requires c κs = tt
 
 enum-known-response : tie.Need-enum-known-response
 enum-known-response c = search needs
 
 add-number-requires : tie.Need-add-number-requires
-add-number-requires c κs = search needs
+add-number-requires c κs = tt
 
 same-length : tie.Need-same-length
 same-length c = search needs

@@ -1,37 +1,38 @@
 use borrow.Author.Needs.{needs}
+use mathlib.Core.Path.{refl}
 use Rattle.text.specs.PageLaws.{added-then}
 use Rattle.report.proofs.lines.segment.Statement.{statement}
 use Rattle.report.proofs.lines.segment.Tie as tie
 
 slice-aggregate-add-numbered : tie.Need-slice-aggregate-add-numbered
-slice-aggregate-add-numbered c = search needs
+slice-aggregate-add-numbered c = refl
 
 add-numbered-requires : tie.Need-add-numbered-requires
-add-numbered-requires c κs = search needs
+add-numbered-requires c κs = tt
 
 slice-aggregate-add-numbered-2 : tie.Need-slice-aggregate-add-numbered-2
-slice-aggregate-add-numbered-2 c = search needs
+slice-aggregate-add-numbered-2 c = refl
 
 add-numbered-requires-2 : tie.Need-add-numbered-requires-2
-add-numbered-requires-2 c κs = search needs
+add-numbered-requires-2 c κs = tt
 
 slice-aggregate-add-numbered-3 : tie.Need-slice-aggregate-add-numbered-3
-slice-aggregate-add-numbered-3 c = search needs
+slice-aggregate-add-numbered-3 c = refl
 
 add-numbered-requires-3 : tie.Need-add-numbered-requires-3
-add-numbered-requires-3 c κs = search needs
+add-numbered-requires-3 c κs = tt
 
 slice-aggregate-add-numbered-4 : tie.Need-slice-aggregate-add-numbered-4
-slice-aggregate-add-numbered-4 c = search needs
+slice-aggregate-add-numbered-4 c = refl
 
 add-numbered-requires-4 : tie.Need-add-numbered-requires-4
-add-numbered-requires-4 c κs = search needs
+add-numbered-requires-4 c κs = tt
 
 slice-aggregate-add : tie.Need-slice-aggregate-add
-slice-aggregate-add c = search needs
+slice-aggregate-add c = refl
 
 add-requires : tie.Need-add-requires
-add-requires c κs = search needs
+add-requires c κs = tt
 
 same-length : tie.Need-same-length
 same-length c = search needs
