@@ -43,13 +43,22 @@ same-length c = search needs
 
 returns : tie.Need-returns
 returns c =
-    let read = c .before .before .before .before .before .before .before .before .before .before .before .before .before .before .before .before .before .before .before .before .before .before .header-of .ensures in
-    report-told (c .before .before .before .before .before .before .before .before .before .before .before .before .before .before .before .before .before .before .before .before .before .before .before .before .before .before .before .pre) _ _ _ _ _ _ _ (c .before .before .before .before .before .before .before .before .before .before .before .before .before .before .before .before .before .before .before .before .before .least .ensures)
-    (added-as _ (ap₂ admittedLine (c .before .before .before .before .before .before .before .before .before .before .before .before .before .before .before .before .before .before .before .shares .ensures) (ap (λ (l : Length). l .ticks) (frame-read _ read))) (c .before .before .before .before .before .before .before .before .before .before .before .before .before .before .before .before .before .before .admitted .ensures))
-    (c .before .before .before .before .before .before .before .before .before .before .before .before .before .before .segment-lines .ensures)
-    (c .before .before .before .before .before .before .before .before .before .before .segments .ensures)
-    (c .before .before .before .before .before .before .job-lines .ensures)
-    (added-as _ (ap (λ (n : ℕ). each n (λ i. serverLine i (getD (c .before .before .before .before .before .before .before .before .before .before .before .before .before .before .before .before .before .before .before .before .before .before .before .before .before .before .before .args .records) i blank))) (servers-read _ read)) (c .before .before .server-lines .ensures))
+    let servers = c .before .before in
+    let jobs = servers .before .before .before .before in
+    let count = jobs .before .before .before .before in
+    let segments = count .before .before .before .before in
+    let admitted = segments .before .before .before .before in
+    let shares = admitted .before in
+    let shown = shares .before .before in
+    let header = shown .before in
+    let start = header .before .before .before .before .before in
+    let read = header .header-of .ensures in
+    report-told (start .pre) _ _ _ _ _ _ _ (shown .least .ensures)
+    (added-as _ (ap₂ admittedLine (shares .shares .ensures) (ap (λ (l : Length). l .ticks) (frame-read _ read))) (admitted .admitted .ensures))
+    (segments .segment-lines .ensures)
+    (count .segments .ensures)
+    (jobs .job-lines .ensures)
+    (added-as _ (ap (λ (n : ℕ). each n (λ i. serverLine i (getD (start .args .records) i blank))) (servers-read _ read)) (servers .server-lines .ensures))
 
 pub accepted-spec : {M : Type 1} → statement M
 accepted-spec =

@@ -1,6 +1,5 @@
 -- `report::job_lines` meets its promise: after k turns the lines of the first k jobs are added.
 use Prim.Native.Nat.{_-_, _≤_, _<_}
-use borrow.Author.Needs.{needs}
 use lib.ListN.{length, getD}
 use mathlib.Core.Path.{_≡_, _∙_, ap}
 use native.Mathlib.Omega.{arith}

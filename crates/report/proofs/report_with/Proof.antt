@@ -13,7 +13,11 @@ enum-told : tie.Need-enum-told
 enum-told c = search needs
 
 accepted-requires : tie.Need-accepted-requires
-accepted-requires c κs = ran-told _ _ _ _ _ _ (c .before .before .before .before .before .before .before .before .before .before .before .before .before .before .before .before .before .pre .0) (c .before .before .before .before .before .before .before .before .before .before .before .before .before .before .before .before .before .pre .1) (c .before .before .before .before .before .before .before .before .before .before .run .ensures) (c .before .before .before .enum-told .given .1)
+accepted-requires c κs =
+    let told = c .before .before .before in
+    let ran = told .before .before .before .before .before .before .before in
+    let asked = ran .before .before .before .before .before .before .before .pre in
+    ran-told _ _ _ _ _ _ (asked .0) (asked .1) (ran .run .ensures) (told .enum-told .given .1)
 
 enum-known-verdict : tie.Need-enum-known-verdict
 enum-known-verdict c = search needs
@@ -32,8 +36,11 @@ same-length-3 c = search needs
 
 returns : tie.Need-returns
 returns c =
-    added-as _ (sym (report-accepted _ _ _ _ _ _ (c .before .before .before .before .before .before .before .before .before .before .before .before .before .before .before .before .before .before .before .before .pre .0) (c .before .before .before .before .before .before .before .before .before .before .before .before .before .before .before .before .before .before .before .before .pre .1) (c .before .before .before .before .before .before .before .before .before .before .before .before .before .run .ensures) (c .before .before .before .before .before .before .enum-told .given .1)))
-    (c .before .before .accepted .ensures)
+    let report = c .before .before in
+    let told = report .before .before .before .before in
+    let ran = told .before .before .before .before .before .before .before in
+    let asked = ran .before .before .before .before .before .before .before .pre in
+    added-as _ (sym (report-accepted _ _ _ _ _ _ (asked .0) (asked .1) (ran .run .ensures) (told .enum-told .given .1))) (report .accepted .ensures)
 
 same-length-4 : tie.Need-same-length-4
 same-length-4 c = search needs
@@ -46,8 +53,11 @@ same-length-6 c = search needs
 
 returns-2 : tie.Need-returns-2
 returns-2 c =
-    added-as _ (sym (report-refused _ _ _ _ _ _ (c .before .before .before .before .before .before .before .before .before .before .before .before .before .before .before .before .before .before .before .pre .0) (c .before .before .before .before .before .before .before .before .before .before .before .before .before .before .before .before .before .before .before .pre .1) (c .before .before .before .before .before .before .before .before .before .before .before .before .run .ensures) _ (c .before .before .before .before .before .verdict .given .1)))
-    (c .before .before .refused .ensures)
+    let line = c .before .before in
+    let told = line .before .before .before in
+    let ran = told .before .before .before .before .before .before .before in
+    let asked = ran .before .before .before .before .before .before .before .pre in
+    added-as _ (sym (report-refused _ _ _ _ _ _ (asked .0) (asked .1) (ran .run .ensures) _ (told .verdict .given .1))) (line .refused .ensures)
 
 pub report-with-spec : {M : Type 1} → statement M
 report-with-spec =

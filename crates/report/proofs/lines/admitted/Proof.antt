@@ -1,3 +1,4 @@
+-- `report::lines::admitted` meets its promise: its parts one behind the other are the line.
 use borrow.Author.Needs.{needs}
 use mathlib.Core.Path.{refl}
 use Rattle.text.specs.PageLaws.{added-then}
@@ -27,9 +28,12 @@ same-length c = search needs
 
 returns : tie.Need-returns
 returns c =
-    added-then _ _ _ (c .before .before .before .before .before .before .before .before .before .before .before .before .add-numbered .ensures)
-    (added-then _ _ _ (c .before .before .before .before .before .before .before .add-numbered2 .ensures)
-    (c .before .before .add .ensures))
+    let end = c .before .before in
+    let frame = end .before .before .before .before .before in
+    let sum = frame .before .before .before .before .before in
+    added-then _ _ _ (sum .add-numbered .ensures)
+    (added-then _ _ _ (frame .add-numbered2 .ensures)
+    (end .add .ensures))
 
 pub admitted-spec : {M : Type 1} → statement M
 admitted-spec =

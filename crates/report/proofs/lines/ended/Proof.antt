@@ -1,3 +1,4 @@
+-- `report::lines::ended` meets its promise: the one test asks whether the number stands for an open job.
 use borrow.Author.Needs.{needs}
 use mathlib.Core.List.{[], _∷_}
 use mathlib.Core.Path.{refl, sym, _∙_, ap}
@@ -49,13 +50,17 @@ same-length-2 c = search needs
 
 returns-2 : tie.Need-returns-2
 returns-2 c =
-    let args = c .before .before .before .before .before .before .before .before .before .before .before .before .before .before .before .before .before .before .args in
+    let end = c .before .before in
+    let response = end .before .before .before .before .before in
+    let finish = response .before .before .before .before .before in
+    let until = finish .before .before .before in
+    let args = until .before .before .before .args in
     added-as _
-    (ap (λ (l : Length). goesOn (number (args .finish) ∷ number (l .ticks) ∷ [])) (c .before .before .before .before .before .before .before .before .before .before .before .before .before .before .before .until .ensures)
-    ∙ ap (λ (f : Finish). goesOn (finishFields (args .arrived) f)) (sym (finish-of-at _ (c .before .before .before .before .before .before .before .before .before .before .before .before .before .before .before .before .if1 .left))))
-    (added-then _ _ _ (c .before .before .before .before .before .before .before .before .before .before .before .before .add-numbered .ensures)
-    (added-then _ _ _ (c .before .before .before .before .before .before .before .add-numbered2 .ensures)
-    (c .before .before .add2 .ensures)))
+    (ap (λ (l : Length). goesOn (number (args .finish) ∷ number (l .ticks) ∷ [])) (until .until .ensures)
+    ∙ ap (λ (f : Finish). goesOn (finishFields (args .arrived) f)) (sym (finish-of-at _ (until .before .if1 .left))))
+    (added-then _ _ _ (finish .add-numbered .ensures)
+    (added-then _ _ _ (response .add-numbered2 .ensures)
+    (end .add2 .ensures)))
 
 pub ended-spec : {M : Type 1} → statement M
 ended-spec =

@@ -1,3 +1,4 @@
+-- `report::lines::job` meets its promise: the number, the server and the moment, and then the rest of the line.
 use borrow.Author.Needs.{needs}
 use mathlib.Core.Path.{refl}
 use Rattle.text.specs.PageLaws.{added-then}
@@ -30,10 +31,14 @@ same-length c = search needs
 
 returns : tie.Need-returns
 returns c =
-    added-then _ _ _ (c .before .before .before .before .before .before .before .before .before .before .before .before .before .before .before .before .add-numbered .ensures)
-    (added-then _ _ _ (c .before .before .before .before .before .before .before .before .before .before .before .add-numbered2 .ensures)
-    (added-then _ _ _ (c .before .before .before .before .before .before .add-numbered3 .ensures)
-    (c .before .before .ended .ensures)))
+    let ending = c .before .before in
+    let moment = ending .before .before .before .before in
+    let server = moment .before .before .before .before .before in
+    let number = server .before .before .before .before .before in
+    added-then _ _ _ (number .add-numbered .ensures)
+    (added-then _ _ _ (server .add-numbered2 .ensures)
+    (added-then _ _ _ (moment .add-numbered3 .ensures)
+    (ending .ended .ensures)))
 
 pub job-spec : {M : Type 1} → statement M
 job-spec =

@@ -1,3 +1,4 @@
+-- `report::lines::refused` meets its promise: number and place one behind the other, as the table gives them.
 use borrow.Author.Needs.{needs}
 use mathlib.Core.Path.{refl, ap₂}
 use Rattle.report.specs.DayReport.{refusedLine}
@@ -34,10 +35,13 @@ same-length c = search needs
 
 returns : tie.Need-returns
 returns c =
-    added-as _ (ap₂ refusedLine (c .before .before .before .before .before .before .before .before .before .before .before .before .before .before .before .before .number .ensures) (c .before .before .before .before .before .before .before .before .before .before .before .before .before .before .before .place .ensures))
-    (added-then _ _ _ (c .before .before .before .before .before .before .before .before .before .before .before .before .add-numbered .ensures)
-    (added-then _ _ _ (c .before .before .before .before .before .before .before .add-numbered2 .ensures)
-    (c .before .before .add .ensures)))
+    let end = c .before .before in
+    let place = end .before .before .before .before .before in
+    let number = place .before .before .before .before .before in
+    added-as _ (ap₂ refusedLine (number .before .before .before .before .number .ensures) (number .before .before .before .place .ensures))
+    (added-then _ _ _ (number .add-numbered .ensures)
+    (added-then _ _ _ (place .add-numbered2 .ensures)
+    (end .add .ensures)))
 
 pub refused-spec : {M : Type 1} → statement M
 refused-spec =

@@ -1,3 +1,4 @@
+-- `report::lines::segment` meets its promise: its parts one behind the other are the line.
 use borrow.Author.Needs.{needs}
 use mathlib.Core.Path.{refl}
 use Rattle.text.specs.PageLaws.{added-then}
@@ -39,11 +40,16 @@ same-length c = search needs
 
 returns : tie.Need-returns
 returns c =
-    added-then _ _ _ (c .before .before .before .before .before .before .before .before .before .before .before .before .before .before .before .before .before .before .before .before .before .before .add-numbered .ensures)
-    (added-then _ _ _ (c .before .before .before .before .before .before .before .before .before .before .before .before .before .before .before .before .before .add-numbered2 .ensures)
-    (added-then _ _ _ (c .before .before .before .before .before .before .before .before .before .before .before .before .add-numbered3 .ensures)
-    (added-then _ _ _ (c .before .before .before .before .before .before .before .add-numbered4 .ensures)
-    (c .before .before .add .ensures))))
+    let end = c .before .before in
+    let deadline = end .before .before .before .before .before in
+    let server = deadline .before .before .before .before .before in
+    let length = server .before .before .before .before .before in
+    let start = length .before .before .before .before .before in
+    added-then _ _ _ (start .add-numbered .ensures)
+    (added-then _ _ _ (length .add-numbered2 .ensures)
+    (added-then _ _ _ (server .add-numbered3 .ensures)
+    (added-then _ _ _ (deadline .add-numbered4 .ensures)
+    (end .add .ensures))))
 
 pub segment-spec : {M : Type 1} → statement M
 segment-spec =

@@ -1,3 +1,4 @@
+-- `report::lines::segments` meets its promise: its parts one behind the other are the line.
 use borrow.Author.Needs.{needs}
 use mathlib.Core.Path.{refl}
 use Rattle.text.specs.PageLaws.{added-then}
@@ -27,9 +28,12 @@ same-length c = search needs
 
 returns : tie.Need-returns
 returns c =
-    added-then _ _ _ (c .before .before .before .before .before .before .before .before .before .before .before .before .add-numbered .ensures)
-    (added-then _ _ _ (c .before .before .before .before .before .before .before .add-numbered2 .ensures)
-    (c .before .before .add .ensures))
+    let end = c .before .before in
+    let shown = end .before .before .before .before .before in
+    let count = shown .before .before .before .before .before in
+    added-then _ _ _ (count .add-numbered .ensures)
+    (added-then _ _ _ (shown .add-numbered2 .ensures)
+    (end .add .ensures))
 
 pub segments-spec : {M : Type 1} → statement M
 segments-spec =

@@ -1,4 +1,4 @@
-use borrow.Author.Needs.{needs}
+-- `report::lines::server` meets its promise: its parts one behind the other are the line.
 use lib.ListN.{length}
 use mathlib.Core.Path.{refl, _∙_, ap}
 use Rattle.report.specs.DayReport.{serverLine}
@@ -64,16 +64,26 @@ add-requires-3 c κs = tt
 returns : tie.Need-returns
 unfolding serverLine
 returns c =
-    added-then _ _ _ (c .before .before .before .before .before .before .before .before .before .before .before .before .before .before .before .before .before .before .before .before .before .before .before .before .before .before .before .before .before .before .before .before .before .before .before .before .before .before .before .before .before .before .before .before .before .add-numbered .ensures)
-    (added-then _ _ _ (c .before .before .before .before .before .before .before .before .before .before .before .before .before .before .before .before .before .before .before .before .before .before .before .before .before .before .before .before .before .before .before .before .before .before .before .before .before .before .before .before .add-numbered2 .ensures)
-    (added-then _ _ _ (c .before .before .before .before .before .before .before .before .before .before .before .before .before .before .before .before .before .before .before .before .before .before .before .before .before .before .before .before .before .before .before .before .before .before .before .add-numbered3 .ensures)
-    (added-then _ _ _ (c .before .before .before .before .before .before .before .before .before .before .before .before .before .before .before .before .before .before .before .before .before .before .before .before .before .before .before .before .before .before .add .ensures)
-    (added-then _ _ _ (c .before .before .before .before .before .before .before .before .before .before .before .before .before .before .before .before .before .before .before .before .before .before .before .before .before .before .total .ensures)
-    (added-then _ _ _ (c .before .before .before .before .before .before .before .before .before .before .before .before .before .before .before .before .before .before .before .before .before .add2 .ensures)
-    (added-then _ _ _ (c .before .before .before .before .before .before .before .before .before .before .before .before .before .before .before .before .before .longest .ensures)
-    (added-then _ _ _ (c .before .before .before .before .before .before .before .before .before .before .before .before .add-numbered4 .ensures)
-    (added-then _ _ _ (c .before .before .before .before .before .before .before .add-numbered5 .ensures)
-    (c .before .before .add3 .ensures)))))))))
+    let end = c .before .before in
+    let interrupted = end .before .before .before .before .before in
+    let postponed = interrupted .before .before .before .before .before in
+    let longest = postponed .before .before .before .before .before in
+    let of-longest = longest .before .before .before .before in
+    let total = of-longest .before .before .before .before .before in
+    let of-total = total .before .before .before .before in
+    let finished = of-total .before .before .before .before .before in
+    let arrived = finished .before .before .before .before .before in
+    let number = arrived .before .before .before .before .before in
+    added-then _ _ _ (number .add-numbered .ensures)
+    (added-then _ _ _ (arrived .add-numbered2 .ensures)
+    (added-then _ _ _ (finished .add-numbered3 .ensures)
+    (added-then _ _ _ (of-total .add .ensures)
+    (added-then _ _ _ (total .total .ensures)
+    (added-then _ _ _ (of-longest .add2 .ensures)
+    (added-then _ _ _ (longest .longest .ensures)
+    (added-then _ _ _ (postponed .add-numbered4 .ensures)
+    (added-then _ _ _ (interrupted .add-numbered5 .ensures)
+    (end .add3 .ensures)))))))))
 
 same-length : tie.Need-same-length
 same-length c = ap (λ (p : Page). length (p .text)) (returns c) ∙ added-length _ _
