@@ -44,8 +44,8 @@ segmentsLine count shown = line "segments" (number count ∷ word "shown" ∷ nu
 
 -- "finish, response; an open job has `open -` in the last two"; a response is "finish minus arrival moment"
 abbrev pub finishFields : Moment → Finish → List Field
-finishFields arrived isOpen = word "open" ∷ word "-" ∷ []
-finishFields arrived (at t) = number t ∷ number (until arrived (moment t) .ticks) ∷ []
+finishFields came isOpen = word "open" ∷ word "-" ∷ []
+finishFields came (at t) = number t ∷ number (until came (moment t) .ticks) ∷ []
 
 -- "a `job` line for each arrival (number, server, moment, finish, response ..)"
 abbrev pub jobWith : Arrival → ℕ → Finish → List ℕ
@@ -63,7 +63,7 @@ abbrev pub longestField : Response → Field
 longestField Absent = word "-"
 longestField (Over total longest) = number (longest .ticks)
 
--- "a `server` line for each server"
+-- "a `server` line for each server", with the words of File P's report in their order
 unfoldable pub serverLine : ℕ → Summary → List ℕ
 serverLine i s =
     line "server"
@@ -84,6 +84,6 @@ abbrev pub reportOf : Said (Unit {0}) → Work → List ℕ
 reportOf (refused n place) w = refusedLine n place
 reportOf (gave u) w = acceptedReport w (trace (history w) (w .horizon .tick))
 
--- The day report of a file. It lends a finish list of 4,096 places, so that 9 cannot occur.
+-- The day report of a file. The run is lent a finish list of 4,096 places, so that 9 cannot occur.
 unfoldable pub dayReport : List ℕ → List ℕ
 dayReport file = reportOf (judged file mostArrivals) (work file)

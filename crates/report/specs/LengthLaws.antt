@@ -29,7 +29,7 @@ use Rattle.report.specs.DayReport.{admittedLine, segmentLine, segmentLin
 use Rattle.report.specs.LineLengthLaws.{refused-length, admitted-length, segment-length, segments-length, job-length, server-length}
 use Rattle.report.specs.Told.{traceOf}
 
--- the bytes of the longest text that a report can need
+-- room for any report
 abbrev pub mostBytes : ℕ
 mostBytes = 262_144
 

@@ -56,12 +56,12 @@ pub(crate) fn job(text: &mut [u8], next: usize, k: usize, a: Arrival, finish: u3
     let mut at = text::add_numbered(text, next, b"job ", k as u64);
     at = text::add_numbered(text, at, b" ", a.server as u64);
     at = text::add_numbered(text, at, b" ", a.moment.tick);
-    ended(text, at, a.moment, finish)
+    finish_fields(text, at, a.moment, finish)
 }
 
 // The rest of a job's line: its finish and its response.
-fn ended(text: &mut [u8], next: usize, arrived: Moment, finish: u32) -> usize
-    ensures { λ r. ⌜ page (now (text .exit)) r ≡ added (goesOn (finishFields arrived (finishOf finish))) (page (now (text .entry)) next) ⌝ }
+fn finish_fields(text: &mut [u8], next: usize, came: Moment, finish: u32) -> usize
+    ensures { λ r. ⌜ page (now (text .exit)) r ≡ added (goesOn (finishFields came (finishOf finish))) (page (now (text .entry)) next) ⌝ }
 {
     if finish == sizes::OPEN_JOB {
         return text::add(text, next, b" open -\n");
@@ -69,7 +69,7 @@ fn ended(text: &mut [u8], next: usize, arrived: Moment, finish: u32) -> usize
     let moment = Moment {
         tick: finish as u64,
     };
-    let response = clock::until(arrived, moment);
+    let response = clock::until(came, moment);
     let mut at = text::add_numbered(text, next, b" ", finish as u64);
     at = text::add_numbered(text, at, b" ", response.ticks);
     text::add(text, at, b"\n")

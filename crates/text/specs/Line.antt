@@ -1,4 +1,5 @@
--- Lines of text, as bytes: words and numbers with "single spaces" between them, and "a line feed after each line".
+-- Lines of text, as bytes: words and numbers with one space between two of them, and a line feed at the end of each line, as document 01
+-- prints File P's report.
 use Prim.Native.Char.{code}
 use Prim.Native.Nat.{ℕ, zero, suc, _+_, _/_, _%_}
 use Prim.Native.String.{String, [] as end, _∷_ as _then_}
@@ -6,7 +7,7 @@ use lib.Dec.{ltb}
 use mathlib.Core.Bool.{cond}
 use mathlib.Core.List.{List, [], _∷_, _++_}
 
--- the bytes of a quoted text
+-- the bytes of a quoted text, which is ASCII wherever it is used
 abbrev pub bytes : String → List ℕ
 bytes end = []
 bytes (c then more) = code c ∷ bytes more
@@ -16,7 +17,7 @@ abbrev pub digit : ℕ → ℕ
 digit d = code "0" + d
 
 -- A number in decimal: one digit where it is below 10, and else a tenth of it in decimal and its last digit. `most` bounds how many
--- digits there are; a number has fewer than itself and one.
+-- digits there are; a number has no more than itself and one, so that the bound cuts nothing (`decimal-last`, `decimal-more` of LineLaws).
 unfoldable pub digitsUpTo : ℕ → ℕ → List ℕ
 digitsUpTo zero n = []
 digitsUpTo (suc most) n = cond (ltb n 10) (digit n ∷ []) (digitsUpTo most (n / 10) ++ digit (n % 10) ∷ [])

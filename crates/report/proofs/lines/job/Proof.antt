@@ -23,8 +23,8 @@ slice-aggregate-add-numbered-3 c = refl
 add-numbered-requires-3 : tie.Need-add-numbered-requires-3
 add-numbered-requires-3 c κs = tt
 
-ended-requires : tie.Need-ended-requires
-ended-requires c κs = tt
+finish-fields-requires : tie.Need-finish-fields-requires
+finish-fields-requires c κs = tt
 
 same-length : tie.Need-same-length
 same-length c = search needs
@@ -38,7 +38,7 @@ returns c =
     added-then _ _ _ (number .add-numbered .ensures)
     (added-then _ _ _ (server .add-numbered2 .ensures)
     (added-then _ _ _ (moment .add-numbered3 .ensures)
-    (ending .ended .ensures)))
+    (ending .finish-fields .ensures)))
 
 pub job-spec : {M : Type 1} → statement M
 job-spec =
@@ -50,6 +50,6 @@ job-spec =
     add-numbered-requires-2
     slice-aggregate-add-numbered-3
     add-numbered-requires-3
-    ended-requires
+    finish-fields-requires
     same-length
     returns)

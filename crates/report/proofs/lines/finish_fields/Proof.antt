@@ -1,4 +1,4 @@
--- `report::lines::ended` meets its promise: the one test asks whether the number stands for an open job.
+-- `report::lines::finish_fields` meets its promise: the one test asks whether the number stands for an open job.
 use borrow.Author.Needs.{needs}
 use mathlib.Core.List.{[], _∷_}
 use mathlib.Core.Path.{refl, sym, _∙_, ap}
@@ -8,8 +8,8 @@ use Rattle.report.specs.DayReport.{finishFields}
 use Rattle.report.specs.ToldLaws.{finish-of-open, finish-of-at}
 use Rattle.text.specs.Line.{number, goesOn}
 use Rattle.text.specs.PageLaws.{added-as, added-then}
-use Rattle.report.proofs.lines.ended.Statement.{statement}
-use Rattle.report.proofs.lines.ended.Tie as tie
+use Rattle.report.proofs.lines.finish_fields.Statement.{statement}
+use Rattle.report.proofs.lines.finish_fields.Tie as tie
 
 slice-aggregate-add : tie.Need-slice-aggregate-add
 slice-aggregate-add c = refl
@@ -22,7 +22,7 @@ same-length c = search needs
 
 returns : tie.Need-returns
 returns c =
-    added-as _ (ap (λ (f : Finish). goesOn (finishFields (c .before .before .before .before .before .before .before .args .arrived) f)) (sym (finish-of-open _ (c .before .before .before .before .before .if1 .taken)))) (c .before .before .add .ensures)
+    added-as _ (ap (λ (f : Finish). goesOn (finishFields (c .before .before .before .before .before .before .before .args .came) f)) (sym (finish-of-open _ (c .before .before .before .before .before .if1 .taken)))) (c .before .before .add .ensures)
 
 until-requires : tie.Need-until-requires
 until-requires c κs = tt
@@ -57,13 +57,13 @@ returns-2 c =
     let args = until .before .before .before .args in
     added-as _
     (ap (λ (l : Length). goesOn (number (args .finish) ∷ number (l .ticks) ∷ [])) (until .until .ensures)
-    ∙ ap (λ (f : Finish). goesOn (finishFields (args .arrived) f)) (sym (finish-of-at _ (until .before .if1 .left))))
+    ∙ ap (λ (f : Finish). goesOn (finishFields (args .came) f)) (sym (finish-of-at _ (until .before .if1 .left))))
     (added-then _ _ _ (finish .add-numbered .ensures)
     (added-then _ _ _ (response .add-numbered2 .ensures)
     (end .add2 .ensures)))
 
-pub ended-spec : {M : Type 1} → statement M
-ended-spec =
+pub finish-fields-spec : {M : Type 1} → statement M
+finish-fields-spec =
     tie.close
     (tie.spec
     slice-aggregate-add
