@@ -14,8 +14,10 @@ use Rattle.history.specs.Choice.{isFor, same, served}
 use Rattle.moments.specs.Moments.{atMoment, history, postponedBy, ready, taken, turn, waitingAt}
 use Rattle.opening.specs.Opening.{judged}
 use Rattle.reader.specs.Word.{word}
+use Rattle.report.specs.DayReport.{dayReport, segmentLines, jobLine, serverLine}
 use Rattle.server.specs.Moves as server
 use Rattle.summary.specs.Summary.{arrivedOf, finishedOf, howMany, interruptedOf, responseIn, responses, responsesOf, summaryOf}
+use Rattle.text.specs.Line.{decimal, digitsUpTo, each}
 use Rattle.trace.specs.Trace.{begins, begun, lasting}
 use Rattle.workfile.specs.Judgement as workfile
 use Rattle.workfile.specs.Layout.{arrivalAt, bookingAt, header}
@@ -23,5 +25,5 @@ use Rattle.workfile.specs.Work.{work}
 use Rattle.checked_by_hand.specs.ByHand.{AllHold, checkedByHand}
 
 pub all-hold : AllHold checkedByHand
-unfolding server.renews server.arrived server.served judged first sum total longest every count places arrival ran tick mayRun picked atStart firstServed servedBy workOf isFor same served atMoment history postponedBy ready taken turn waitingAt word arrivedOf finishedOf howMany interruptedOf responseIn responses responsesOf summaryOf begins begun lasting workfile.arrivalJudged workfile.arrivalsJudged workfile.workJudged workfile.judged arrivalAt bookingAt header work
-all-hold = (refl, (refl, (refl, (refl, (refl, (refl, (refl, (refl, (refl, (refl, (refl, (refl, (refl, (refl, (refl, (refl, (refl, (refl, (refl, (refl, tt))))))))))))))))))))
+unfolding dayReport segmentLines jobLine serverLine decimal digitsUpTo each server.renews server.arrived server.served judged first sum total longest every count places arrival ran tick mayRun picked atStart firstServed servedBy workOf isFor same served atMoment history postponedBy ready taken turn waitingAt word arrivedOf finishedOf howMany interruptedOf responseIn responses responsesOf summaryOf begins begun lasting workfile.arrivalJudged workfile.arrivalsJudged workfile.workJudged workfile.judged arrivalAt bookingAt header work
+all-hold = (refl, (refl, (refl, (refl, (refl, (refl, (refl, (refl, (refl, (refl, (refl, (refl, (refl, (refl, (refl, (refl, (refl, (refl, (refl, (refl, (refl, (refl, tt))))))))))))))))))))))

@@ -1,6 +1,8 @@
 -- Document 01, "Checked by hand": "Those marked * are proved as one list under one statement about the definitions".
+use Prim.Native.Char.{code}
 use Prim.Native.Nat.{ℕ}
-use mathlib.Core.List.{List, [], _∷_}
+use Prim.Native.String.{String}
+use mathlib.Core.List.{List, [], _∷_, _++_}
 use mathlib.Core.Path.{_≡_}
 use Rattle.booking.specs.Admission.{shares}
 use Rattle.clock.specs.Clock.{moment, ticks}
@@ -8,11 +10,13 @@ use Rattle.finish.specs.Finish.{Finish, isOpen, at}
 use Rattle.moments.specs.Moments.{history}
 use Rattle.opening.specs.Opening.{listed, judged}
 use Rattle.refusal.specs.Refusals.{Said, refused, accepted}
+use Rattle.report.specs.DayReport.{dayReport}
 use Rattle.server.specs.declared.Server.{Server}
 use Rattle.server.specs.Moves.{woken}
 use Rattle.summary.specs.declared.Response.the-variants.{Absent}
 use Rattle.summary.specs.declared.Summary.{Summary}
 use Rattle.summary.specs.Summary.{finishes, summaryOf}
+use Rattle.text.specs.Line as line
 use Rattle.trace.specs.declared.Segment.{Segment}
 use Rattle.trace.specs.Trace.{trace}
 use Rattle.workfile.specs.Judgement as workfile
@@ -31,6 +35,8 @@ pub data Example : Type 0 where
   tracing : (file : List ℕ) → (segments : List Segment) → Example
   finishing : (file : List ℕ) → (job : ℕ) → Finish → Example
   summing : (file : List ℕ) → (server : ℕ) → Summary → Example
+  -- and its day report, whole
+  reporting : (file : List ℕ) → (lines : List String) → Example
 
 -- an idle server
 abbrev pub idleServer : (Q T c d : ℕ) → Server
@@ -61,6 +67,11 @@ fileP = 10 ∷ 12 ∷ 2 ∷ 24 ∷ 3 ∷ 40 ∷ 2 ∷ 5 ∷ 3 ∷ 5 ∷ 0 ∷ 0 
 abbrev pub fileQ : List ℕ
 fileQ = 5 ∷ 4 ∷ 1 ∷ 24 ∷ 1 ∷ 32 ∷ 1 ∷ 5 ∷ 1 ∷ 0 ∷ 5 ∷ []
 
+-- the bytes of lines as they are printed
+abbrev pub printed : List String → List ℕ
+printed [] = []
+printed (l ∷ more) = line.bytes l ++ code "\n" ∷ printed more
+
 -- what an example says of the definitions
 abbrev pub Holds : Example → Type 0
 Holds (waking Q T c d t d′ c′) = woken (idleServer Q T c d) (moment t) ≡ idleServer Q T c′ d′
@@ -70,6 +81,7 @@ Holds (accepting file places) = workfile.judged (bytes file) places ≡ accepted
 Holds (tracing file segments) = trace (history (work (bytes file))) (work (bytes file) .horizon .tick) ≡ segments
 Holds (finishing file job finish) = finishes (work (bytes file)) job ≡ finish
 Holds (summing file server record′) = summaryOf (work (bytes file)) server ≡ record′
+Holds (reporting file lines) = dayReport (bytes file) ≡ printed lines
 
 abbrev pub AllHold : List Example → Type 0
 AllHold [] = Unit {0}
@@ -103,9 +115,26 @@ checkedByHand =
     ∷ finishing fileP 0 (at 10)
     ∷ finishing fileP 1 (at 5)
     ∷ finishing fileP 2 (at 9)
+    -- and its report
+    ∷ reporting fileP
+    ("admitted 10 of 10"
+    ∷ "segment 0 2 0 5"
+    ∷ "segment 2 3 1 5"
+    ∷ "segment 5 2 0 10"
+    ∷ "segment 7 2 1 11"
+    ∷ "segment 9 1 0 15"
+    ∷ "segments 5 shown 5"
+    ∷ "job 0 0 0 10 10"
+    ∷ "job 1 1 0 5 5"
+    ∷ "job 2 1 6 9 3"
+    ∷ "server 0 arrived 1 finished 1 total 10 longest 10 postponed 2 interrupted 2"
+    ∷ "server 1 arrived 2 finished 2 total 8 longest 5 postponed 1 interrupted 0"
+    ∷ [])
     -- File Q: "segments (1, 1, 0, 6), (2, 1, 0, 11), (3, 1, 0, 16), the job open, postponed 3, response absent, interrupted 2"
     ∷ accepting fileQ 1
     ∷ tracing fileQ (segment 1 1 0 6 ∷ segment 2 1 0 11 ∷ segment 3 1 0 16 ∷ [])
     ∷ finishing fileQ 0 isOpen
     ∷ summing fileQ 0 (record { arrived = 1; finished = 0; postponed = 3; interrupted = 2; response = Absent })
+    -- "A 24-byte file with H 1, N 0, no servers, no arrivals, both offsets 24 gives `admitted 0 of 1` and `segments 0 shown 0`."
+    ∷ reporting (1 ∷ 0 ∷ 0 ∷ 24 ∷ 0 ∷ 24 ∷ []) ("admitted 0 of 1" ∷ "segments 0 shown 0" ∷ [])
     ∷ []
