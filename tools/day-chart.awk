@@ -1,6 +1,6 @@
 # The picture of a day report, as SVG. It reads the report's text and nothing else, so that it shows what was proved.
 # Every awk writes the same bytes: numbers of the report are kept as the text they came in, and places on the
-# picture are written with one decimal.
+# picture are written with one decimal. "ended" is "no" where the last line came without its end.
 
 # ---- The report
 
@@ -18,18 +18,37 @@ NR == 1 || refused { fault("line " NR " is not a line of a day report: " substr(
     next
 }
 /^segments [0-9]+ shown [0-9]+$/ && told == "" { told = $2; shown = $4; next }
-/^job [0-9]+ [0-9]+ [0-9]+ ([0-9]+ [0-9]+|open -)$/ && told != "" {
+/^job [0-9]+ [0-9]+ [0-9]+ ([0-9]+ [0-9]+|open -)$/ && told != "" && servers == 0 {
+    if ($2 + 0 != jobs) fault("line " NR " has job " $2 " where job " jobs " is due: the report is not whole")
     owner[jobs] = $3 + 0; moment[jobs] = $4; finish[jobs] = $5; response[jobs] = $6
     jobs++
     next
 }
 /^server [0-9]+ arrived [0-9]+ finished [0-9]+ total ([0-9]+|-) longest ([0-9]+|-) postponed [0-9]+ interrupted [0-9]+$/ && told != "" {
+    if ($2 + 0 != servers) fault("line " NR " has server " $2 " where server " servers " is due: the report is not whole")
     arrived[servers] = $4; finished[servers] = $6; total[servers] = $8; longest[servers] = $10
     postponed[servers] = $12; interrupted[servers] = $14
     servers++
     next
 }
 { fault("line " NR " is not a line of a day report: " substr($0, 1, 60)) }
+
+# Why a text whose lines are those of a report is not a whole one; "" where nothing tells. The lines of the segments are
+# counted by the line after them, and the jobs of each server by its own line. A text that was cut among servers at the
+# end that have no jobs cannot be told from a whole one: nothing in a report says how many servers there are.
+function missing(    k, s, count) {
+    if (told == "") return "it ends among the segments"
+    if (segments != shown + 0) return "it has " many(segments, "segment", "segments") " and says that " shown " are shown"
+    if (shown + 0 > told + 0) return "it says that " shown " segments of " told " are shown"
+    for (k = 0; k < segments; k++) if (of[k] >= servers) return "segment " k " is of server " of[k] ", which has no line"
+    for (k = 0; k < jobs; k++) {
+        if (owner[k] >= servers) return "job " k " is of server " owner[k] ", which has no line"
+        count[owner[k]]++
+    }
+    for (s = 0; s < servers; s++)
+        if (count[s] + 0 != arrived[s] + 0) return "it has " many(count[s] + 0, "job", "jobs") " of server " s ", of which " arrived[s] " arrived"
+    return ended == "no" ? "its last line has no end" : ""
+}
 
 # ---- Words
 
@@ -67,8 +86,14 @@ function length_beside(t) { return grouped(t) (by_clock ? " (" span(t) ")" : "")
 # A moment in a remark: its number, and by the clock where the axis goes by the clock.
 function moment_words(t) { return grouped(t) (by_clock ? " (" clock(t) ")" : "") }
 
-# How wide a text is drawn, at most.
-function wide(text, size) { return length(text) * size * 0.62 }
+# How wide a text is drawn, at most: by the widths of DejaVu Sans, the widest of the letters named below.
+function wide(text, size,    all, narrow, half, broad) {
+    all = length(text)
+    narrow = gsub(/[ .,:ijl]/, "", text)
+    half = gsub(/[frt]/, "", text)
+    broad = gsub(/[mw]/, "", text)
+    return size * (0.34 * narrow + 0.42 * half + 0.98 * broad + 0.64 * (all - narrow - half - broad))
+}
 
 # ---- Drawing
 
@@ -85,7 +110,7 @@ function open_picture(width, height, name) {
     print ".n{font-size:13px;font-weight:600}.d{font-size:11px;fill:#444}.x{font-size:11.5px;text-anchor:middle}.xd{font-size:11.5px;text-anchor:middle;font-weight:600}"
     print ".s{font-size:9.5px;fill:#444}.m{font-size:9.5px;fill:#444;text-anchor:middle}.l{font-size:11px;text-anchor:middle}.o{font-size:11px;fill:#a8200d;font-weight:600}"
     print ".g{stroke:#d5d5d5;stroke-width:1}.f{stroke:#ececec;stroke-width:1}.b{stroke:#999;stroke-width:1}"
-    print ".t{fill:none;stroke-width:1;stroke-dasharray:1.5 2.5}.k{fill:none;stroke-width:1;stroke-opacity:.75}.j{stroke:#8a8a8a;stroke-width:1.4}.a{fill:#222}"
+    print ".t{fill:none;stroke-width:1;stroke-dasharray:1.5 2.5}.k{fill:none;stroke-width:1;stroke-opacity:.75}.j{stroke:#8a8a8a;stroke-width:1.4}.a{fill:#222}.e{fill:none;stroke:#777;stroke-width:.8}"
     print ".c{fill:none;stroke:#222;stroke-width:1.6;stroke-linecap:round;stroke-linejoin:round}"
     print ".r{fill:#fff;stroke:#c1260f;stroke-width:1.6}.u{fill:none;stroke:#c1260f;stroke-width:1.6;stroke-dasharray:5 3}"
     print "</style>"
@@ -138,7 +163,7 @@ function axis_end(    k, last, furthest) {
     }
     reported = last
     # Deadlines that lie a little further on are taken in: more of them where there is little to draw.
-    if (furthest > last && furthest <= last * (segments <= 40 ? 4 : 1.15)) last = furthest
+    if (!cut && furthest > last && furthest <= last * (segments <= 40 ? 4 : 1.15)) last = furthest
     return last > 0 ? last : 1
 }
 
@@ -178,6 +203,7 @@ function draw_axis(top, bottom,    t, label) {
 # ---- The lanes
 
 function colour_of(s) { return colour[s % colours] }
+function ink_of(s) { return ink[s % colours] }
 function thin_of(s) { return thin[s % colours] }
 
 function bar(k, top, height, what,    from, width) {
@@ -200,7 +226,7 @@ function node_lane(top,    k, busy, label) {
         bar(k, top + 8, 22, segment_words(k))
         busy += len[k]
         label = of[k] ""
-        if (len[k] * scale > wide(label, 11) + 6) printf "<text x=\"%.1f\" y=\"%.1f\" class=\"l\" style=\"fill:%s\">%s</text>\n", x(start[k] + len[k] / 2), top + 23, ink[of[k] % colours], label
+        if (len[k] * scale > wide(label, 11) + 6) printf "<text x=\"%.1f\" y=\"%.1f\" class=\"l\" style=\"fill:%s\">%s</text>\n", x(start[k] + len[k] / 2), top + 23, ink_of(of[k]), label
     }
     text_at(100, top + 20, "d", "busy for " many(sprintf("%.0f", busy), "tick", "ticks") (cut ? " so far" : ""))
 }
@@ -216,59 +242,168 @@ function crowded(s,    i, close_by, distinct) {
     return 2 * close_by > distinct
 }
 
+# The links of a server's deadlines, from the end of the first segment under each to its flag or to the edge: how many
+# levels they need so that no two lie on one line, and the level of each (-1: there is none left, which needs more than
+# a lane has room for). A server's deadlines never go back, so the segments of one deadline follow each other, and a link
+# that begins later ends later; each takes the next level below the last one that is free, so that few of them cross.
+function link_levels(s,    i, k, from, to, n, d, busy, next_level, try, level, until) {
+    group_count[s] = 0
+    levels[s] = 0
+    if (crowded(s)) return
+    for (i = 0; i < runs[s]; i++) {
+        k = run_of[s, i]
+        if (i && due[k] == due[run_of[s, i - 1]]) continue
+        n = group_count[s]++
+        from[n] = x(start[k] + len[k])
+        to[n] = (due[k] + 0 <= end ? x(due[k]) : right + 8) + 3
+    }
+    # The most links that are side by side at any place.
+    d = 0
+    for (n = 0; n < group_count[s]; n++) {
+        while (d < n && to[d] < from[n]) d++
+        if (n - d + 1 > levels[s]) levels[s] = n - d + 1
+    }
+    if (levels[s] > most_levels) levels[s] = most_levels
+    next_level = 0
+    for (n = 0; n < group_count[s]; n++) {
+        busy = 0
+        for (try = 0; try < levels[s]; try++) if (try in until && until[try] >= from[n]) busy++
+        if (!busy) next_level = 0
+        level_of[s, n] = -1
+        for (try = 0; try < levels[s] && level_of[s, n] < 0; try++) {
+            level = (next_level + try) % levels[s]
+            if (level in until && until[level] >= from[n]) continue
+            level_of[s, n] = level
+            until[level] = to[n]
+            next_level = level + 1
+        }
+    }
+}
+
 # The deadlines of a server: a flag at each, linked to the ends of the segments that ran under it; a tick alone where
-# they are crowded. A server's deadlines never go back, so the segments of one deadline follow each other.
-function draw_deadlines(s, top,    ticks, i, k, level, at, group, from, path, next_x, label, px, far) {
-    far = 0
+# they are crowded.
+function draw_deadlines(s, top,    ticks, i, k, n, level, at, group, from, path, next_x, label, px, words) {
+    far = unlinked = furthest = 0
     ticks = crowded(s)
+    n = 0
     for (i = 0; i < runs[s]; i = group) {
         k = run_of[s, i]
-        level = top + links + 3 * (deadlines_drawn[s]++ % 3)
+        words = "server " s ", deadline " moment_words(due[k])
+        level = ticks ? -1 : level_of[s, n++]
+        if (!ticks && level < 0) unlinked++
+        level = level < 0 ? -1 : top + links + level_step * level
         path = ""
         for (group = i; group < runs[s] && due[run_of[s, group]] == due[k]; group++) {
             at = x(start[run_of[s, group]] + len[run_of[s, group]])
             if (group == i) from = at
             path = path sprintf("M%.1f %.1fV%.1f", at, top + bar_top, level)
         }
+        if (due[k] + 0 > end) { far++; furthest = due[k] }
         if (ticks) {
-            if (due[k] + 0 > end) { far++; continue }
-            printf "<path class=\"k\" stroke=\"%s\" stroke-width=\".6\" d=\"M%.1f %.1fv6\">%s</path>\n", thin_of(s), x(due[k]), top + bar_top - 8, remark("server " s ", deadline " moment_words(due[k]))
+            if (due[k] + 0 <= end) printf "<path class=\"k\" stroke=\"%s\" stroke-width=\".6\" d=\"M%.1f %.1fv6\">%s</path>\n", thin_of(s), x(due[k]), top + bar_top - 8, remark(words)
         } else if (due[k] + 0 <= end) {
             px = x(due[k])
-            printf "<path class=\"k\" stroke=\"%s\" d=\"%sM%.1f %.1fH%.1f\"/>\n", thin_of(s), path, from, level, px
-            deadline_mark(px, top + 2, top + bar_top - 1, top + bar_top + bar_height, thin_of(s), "server " s ", deadline " moment_words(due[k]))
+            if (level >= 0) printf "<path class=\"k\" stroke=\"%s\" d=\"%sM%.1f %.1fH%.1f\">%s</path>\n", thin_of(s), path, from, level, px, remark(words)
+            deadline_mark(px, top + 2, level < 0 ? top + links : level, top + bar_top + bar_height, thin_of(s), words)
             next_x = group < runs[s] ? x(due[run_of[s, group]]) : width - 4
             label = by_clock ? clock(due[k]) : grouped(due[k])
             if (roomy && next_x - px > wide(label, 9.5) + 14) text_at(px + 9, top + 9, "s", label)
-        } else {
-            far++
-            printf "<path class=\"k\" stroke=\"%s\" d=\"%sM%.1f %.1fH%.1fl-5 -2.5m5 2.5l-5 2.5\">%s</path>\n", thin_of(s), path, from, level, right + 8, remark("server " s ", deadline " moment_words(due[k]))
-        }
+        } else if (level >= 0) printf "<path class=\"k\" stroke=\"%s\" d=\"%sM%.1f %.1fH%.1fl-4 -1.6m4 1.6l-4 1.6\">%s</path>\n", thin_of(s), path, from, level, right + 8, remark(words)
     }
-    return far
 }
 
-# Job numbers under a lane's arrivals: as words where all of them have the room, else as many numbers as have it.
-function arrival_labels(s, py,    i, k, px, free, label, words, together) {
+# The places of a row that are written on.
+function take(from, to) { taken_from[taken] = from; taken_to[taken++] = to }
+function is_free(from, to,    i) {
+    for (i = 0; i < taken; i++) if (from < taken_to[i] && to > taken_from[i]) return 0
+    return 1
+}
+
+# Job numbers under a lane's arrivals: as words where all of them have the room, else as many numbers as have it, open
+# jobs and the longest response first.
+function arrival_labels(s, py, longest_job,    i, k, px, half, label, words, together, first, round) {
     words = 1
     for (i = 1; i < brought[s]; i++)
         if (x(moment[job_of[s, i]]) - x(moment[job_of[s, i - 1]]) < wide("job " job_of[s, i], 9.5) + 12 && moment[job_of[s, i]] != moment[job_of[s, i - 1]]) words = 0
-    free = 0
-    for (i = 0; i < brought[s]; i = together) {
-        k = job_of[s, i]
-        px = x(moment[k])
-        for (together = i + 1; together < brought[s] && moment[job_of[s, together]] == moment[k]; together++);
-        if (moment[k] + 0 > end) break
-        label = (words ? "job " : "") k (together > i + 1 ? " +" together - i - 1 : "")
-        if (px - wide(label, 9.5) / 2 < free) continue
-        text_at(px, py, "m", label)
-        free = px + wide(label, 9.5) / 2 + 4
-    }
+    for (round = 1; round <= 2; round++)
+        for (i = 0; i < brought[s]; i = together) {
+            k = job_of[s, i]
+            px = x(moment[k])
+            first = 0
+            for (together = i; together < brought[s] && moment[job_of[s, together]] == moment[k]; together++)
+                if (finish[job_of[s, together]] == "open" || job_of[s, together] == longest_job) first = 1
+            if (moment[k] + 0 > end) break
+            if (first != (round == 1)) continue
+            label = (words ? "job " : "") k (together > i + 1 ? " +" together - i - 1 : "")
+            half = wide(label, 9.5) / 2
+            if (!is_free(px - half, px + half)) continue
+            text_at(px, py, "m", label)
+            take(px - half - 2, px + half + 2)
+        }
 }
 
-function draw_jobs(s, top,    usual, i, k, line, px, from, to, next_x, label, opened, first_open, name) {
+function response_words(k) { return "job " k ": response " length_words(response[k]) }
+
+# The label of a server's longest response: beside its finish; else at the nearest place beside the finishes around it,
+# with a line that leads there. Where it goes, or 0 for nowhere. There are n finishes, at fx.
+function longest_place(i, n, w, limit,    j, from, to) {
+    if (room_beside(i, n, limit) > w) return beside(i)
+    for (j = i + 1; j < n && fx[j] - fx[i] < 150; j++) if (room_beside(j, n, limit) > w) return beside(j)
+    for (j = i - 1; j >= -1 && fx[i] - fx[j + 1] < 150; j--) {
+        to = fx[j + 1] - mark * 0.5 - 4
+        from = j < 0 ? left + 4 : beside(j)
+        if (to - from > w) return to - w
+    }
+    return 0
+}
+
+# Where a label beside a finish begins, and the room that it has before the next one.
+function beside(i) { return fx[i] + mark * 0.65 + 3 }
+function room_beside(i, n, limit) { return (i + 1 < n ? fx[i + 1] - mark * 0.5 - 2 : limit) - beside(i) }
+
+function draw_labels(s, line, n, limit,    i, k, w, at, height, longest_job, best, round, fits, full, label) {
+    taken = 0
+    longest_job = -1
+    for (i = 0; i < n; i++) if (longest_job < 0 || response[finish_job[i]] + 0 > response[longest_job] + 0) { best = i; longest_job = finish_job[i] }
+    unplaced = ""
+    if (longest_job >= 0) {
+        # In full, else shorter; the lowest lanes have no row below the line for it, and there the response alone will do.
+        at = 0
+        for (round = 1; round <= (lane > 60 ? 2 : 3) && !at; round++) {
+            label = round == 1 ? response_words(longest_job) : (round == 2 ? "job " longest_job ", " : "") length_words(response[longest_job])
+            w = wide(label, 9.5)
+            at = longest_place(best, n, w, limit)
+        }
+        height = line - mark * 1.05 - 2
+        if (at == beside(best)) text_at(at, line - 3, "s", label)
+        else if (at > fx[best]) {
+            printf "<path class=\"e\" d=\"M%.1f %.1fV%.1fH%.1f\"/>\n", fx[best] + mark * 0.65, height + 2, height, at - 3
+            text_at(at, height + 3.4, "s", label)
+        } else if (at > 0) {
+            printf "<path class=\"e\" d=\"M%.1f %.1fV%.1fH%.1f\"/>\n", fx[best] + mark * 0.65, height + 2, height, at + w + 3
+            printf "<text x=\"%.1f\" y=\"%.1f\" class=\"s\" text-anchor=\"end\">%s</text>\n", at + w, height + 3.4, label
+        } else unplaced = response_words(longest_job)
+        if (at > fx[best]) take(fx[best], at + w + 4); else if (at > 0) take(at - 4, fx[best] + 8)
+    }
+    # The others where they have the room: in full where that leaves none out, else the response alone.
+    if (roomy) for (round = 0; round < 3; round++) {
+        if (round == 2) full = fits[0] == fits[1]
+        else { full = round == 0; fits[round] = 0 }
+        for (i = 0; i < n; i++) {
+            k = finish_job[i]
+            if (k == longest_job) continue
+            label = full ? response_words(k) : length_words(response[k])
+            w = wide(label, 9.5)
+            if (room_beside(i, n, limit) < w + 2 || !is_free(beside(i), beside(i) + w)) continue
+            if (round < 2) fits[round]++; else text_at(beside(i), line - 3, "s", label)
+        }
+    }
+    return longest_job
+}
+
+function draw_jobs(s, top,    usual, i, k, line, px, from, to, label, opened, later_open, first_open, name, n, longest_job, w) {
     line = top + job_line
-    opened = 0
+    opened = later_open = n = 0
     # Smaller marks where arrivals come so close that they would lie on each other.
     usual = mark
     for (i = 1; i < brought[s]; i++)
@@ -291,29 +426,54 @@ function draw_jobs(s, top,    usual, i, k, line, px, from, to, next_x, label, op
         name = "job " grouped(k) " of server " s
         px = x(moment[k])
         if (finish[k] == "open") {
-            if (!opened++) first_open = k
-            if (moment[k] + 0 > end) { later_arrivals++; continue }
-            if (opened == 1) printf "<path class=\"u\" d=\"M%.1f %.1fH%.1f\"/>\n", px, line, x(reported)
+            if (moment[k] + 0 > end) { later_arrivals++; later_open++; continue }
+            if (!opened++) {
+                first_open = k
+                printf "<path class=\"u\" d=\"M%.1f %.1fH%.1f\"/>\n", px, line, x(reported)
+            }
             arrival_mark(px, line, "r", name " arrives at " moment_words(moment[k]) " and is open when the run stops")
             continue
         }
         if (moment[k] + 0 <= end) arrival_mark(px, line + 0.7, "a", name " arrives at " moment_words(moment[k])); else later_arrivals++
         if (finish[k] + 0 > end) { later_finishes++; continue }
-        px = x(finish[k])
-        finish_mark(px, line, name " finishes at " moment_words(finish[k]) ", response " length_beside(response[k]))
-        next_x = i + 1 < brought[s] && finish[job_of[s, i + 1]] != "open" ? x(finish[job_of[s, i + 1]]) - 6 : width - 4
-        label = "job " k " took " length_words(response[k])
-        if (next_x - px < wide(label, 9.5) + 12) label = k ""
-        if (roomy && next_x - px > wide(label, 9.5) + 12) text_at(px + 8, line - 3, "s", label)
+        fx[n] = x(finish[k])
+        finish_job[n] = k
+        finish_mark(fx[n++], line, name " finishes at " moment_words(finish[k]) ", response " length_beside(response[k]))
     }
+    # Labels go into the margin where nothing stands there beside them.
+    longest_job = draw_labels(s, line, n, cut || unlinked || far && !roomy ? right : opened ? x(reported) - 8 : width - 4)
+    # The row below the line. An open job goes on to where the run stops, which is further on where segments are left out.
+    taken = 0
     if (opened) {
         label = opened == 1 ? "job " first_open " open" : grouped(opened) " jobs open"
-        open_mark(x(reported), line, label " when the run stops")
-        if (width - x(reported) > wide(label, 11) + 14) text_at(x(reported) + 9, line + 12, "o", label)
-        else printf "<text x=\"%.1f\" y=\"%.1f\" class=\"o\" text-anchor=\"end\">%s</text>\n", x(reported) - 8, line + (lane > 60 ? 14 : 11), label
+        if (later_open) label = lane > 60 ? label ", " grouped(later_open) " more later" : grouped(opened + later_open) " open"
+        # In bold, which is wider.
+        w = wide(label, 12.4)
+        open_mark(x(reported), line, (opened == 1 ? "job " first_open " open" : grouped(opened) " jobs open") " when the run stops" (cut ? ", which is further on than the segments shown" : ""))
+        if (!cut && width - x(reported) > w + 14) {
+            text_at(x(reported) + 9, line + (lane > 60 ? 12 : 4), "o", label)
+            take(x(reported) + 6, x(reported) + 12 + w)
+        } else {
+            printf "<text x=\"%.1f\" y=\"%.1f\" class=\"o\" text-anchor=\"end\">%s</text>\n", x(reported) - 8, line + (lane > 60 ? mark + 10 : 11), label
+            take(x(reported) - 12 - w, x(reported) - 4)
+        }
+    }
+    if (lane > 60) {
+        if (unplaced != "") {
+            w = wide(unplaced, 9.5) / 2
+            px = x(moment[longest_job])
+            if (px - w < left) px = left + w
+            if (px + w > right) px = right - w
+            # It makes way for the label of the open jobs.
+            if (!is_free(px - w, px + w)) px = taken_from[0] - w - 3
+            if (is_free(px - w, px + w)) {
+                text_at(px, line + mark + 10, "m", unplaced)
+                take(px - w - 3, px + w + 3)
+            }
+        }
+        arrival_labels(s, line + mark + 10, longest_job)
     }
     mark = usual
-    if (lane > 60) arrival_labels(s, line + mark + 10)
 }
 
 # What the report says of a server, beside its lane.
@@ -335,24 +495,38 @@ function draw_summary(s, top,    mean, opened, row) {
     if (lane > 60) text_at(24, row, "d", "postponed " grouped(postponed[s]) ", interrupted " grouped(interrupted[s]))
 }
 
-function server_lane(s, top,    i, k, far, label, row) {
+function server_lane(s, top,    i, k, label, row) {
+    bar_top += extra[s]; job_line += extra[s]; name_line += int(extra[s] / 2)
     later_arrivals = later_finishes = 0
     draw_summary(s, top)
-    far = draw_deadlines(s, top)
+    draw_deadlines(s, top)
     for (i = 0; i < runs[s]; i++) {
         k = run_of[s, i]
         bar(k, top + bar_top, bar_height, segment_words(k))
         label = by_clock ? sprintf("%d:%02d", int(len[k] / 3600), int(len[k] % 3600 / 60)) : grouped(len[k])
         if (roomy && len[k] * scale > wide(label, 11) + 8)
-            printf "<text x=\"%.1f\" y=\"%.1f\" class=\"l\" style=\"fill:%s\">%s</text>\n", x(start[k] + len[k] / 2), top + bar_top + bar_height / 2 + 4, ink[s % colours], label
+            printf "<text x=\"%.1f\" y=\"%.1f\" class=\"l\" style=\"fill:%s\">%s</text>\n", x(start[k] + len[k] / 2), top + bar_top + bar_height / 2 + 4, ink_of(s), label
     }
     draw_jobs(s, top)
-    # What lies beyond the axis is told in the margin.
-    row = top + (lane > 60 ? 24 : 14)
-    if (far) { text_at(right + 14, row, "s", many(far, "deadline", "deadlines")); row += 11 }
-    if (later_arrivals) { text_at(right + 14, row, "s", many(later_arrivals, "arrival", "arrivals")); row += 11 }
-    if (later_finishes) { text_at(right + 14, row, "s", many(later_finishes, "finish", "finishes")); row += 11 }
-    if (far + later_arrivals + later_finishes && lane > 60) text_at(right + 14, row, "s", "further on")
+    margin_notes(top)
+    bar_top -= extra[s]; job_line -= extra[s]; name_line -= int(extra[s] / 2)
+}
+
+# What lies beyond the axis is told in the margin, deadlines with how far they go; and links that found no level.
+function margin_notes(top,    row, words, count, list, k, later, until) {
+    later = later_arrivals + later_finishes
+    until = (far == 1 ? "at " : "to ") (by_clock ? clock(furthest) : grouped(furthest))
+    if (right + 12 + wide(until, 9.5) > width) sub(/ [0-9:]+$/, "|&", until)
+    words = ""
+    if (far) words = many(far, "deadline", "deadlines") (!later && lane > 60 ? "|further on," : "") (!later || lane > 60 ? "|" until : "")
+    if (later_arrivals) words = words "|" many(later_arrivals, "arrival", "arrivals")
+    if (later_finishes) words = words "|" many(later_finishes, "finish", "finishes")
+    if (later && lane > 60) words = words "|further on"
+    if (unlinked && lane > 60) words = words "|" many(unlinked, "link", "links") " left out"
+    sub(/^[|]/, "", words)
+    count = split(words, list, "|")
+    row = top + (roomy ? 24 : 14)
+    for (k = 1; k <= count; k++) { text_at(right + 12, row, "s", list[k]); row += 11 }
 }
 
 function draw_legend(top,    px) {
@@ -368,29 +542,38 @@ function draw_legend(top,    px) {
     text_at(px + 12, top, "p", "a job arrives")
     px += 125
     finish_mark(px, top - 1, "a finish")
-    text_at(px + 13, top, "p", "it finishes")
-    px += 110
+    text_at(px + 8, top - 4, "s", by_clock ? "25 min" : "25")
+    px += by_clock ? 48 : 27
+    text_at(px, top, "p", "it finishes, with this response")
+    px += 222
     printf "<path class=\"j\" d=\"M%d %.1fh26\"/>\n", px, top - 4
     text_at(px + 34, top, "p", "it waits or runs")
     px += 165
     printf "<path class=\"u\" d=\"M%d %.1fh24\"/>\n", px, top - 4
     open_mark(px + 28, top - 4, "an open job")
-    text_at(px + 40, top, "p", "open when the run stops")
+    text_at(px + 40, top, "p", cut ? "open when the run stops, further on" : "open when the run stops")
 }
 
 END {
     if (failed) exit 1
     if (NR == 0) { print "day-chart: the report is empty" > "/dev/stderr"; exit 1 }
+    lack = refused ? (ended == "no" ? "its last line has no end" : "") : missing()
+    if (lack != "") { print "day-chart: the report is not whole: " lack > "/dev/stderr"; exit 1 }
     if (refused) { refused_picture(); exit 0 }
-    if (told == "" || segments + 0 != shown + 0) { print "day-chart: the report is not whole" > "/dev/stderr"; exit 1 }
-    segments += 0; jobs += 0; servers += 0
 
     # Paul Tol's muted colours, which the colour-blind can tell apart, the two lightest a little darker; the ink
-    # to write on each; and the colour of its thin lines.
-    colours = split("#332288 #cc6677 #117733 #882255 #44aa99 #aa4499 #999933 #6db8e2 #cdb650", list, " ")
+    # to write on each; and the colour of its thin lines. From the tenth server on they come lighter, and then darker.
+    split("#332288 #cc6677 #117733 #882255 #44aa99 #aa4499 #999933 #6db8e2 #cdb650 " \
+        "#9990c3 #e5b2bb #88bb99 #c390aa #a1d4cc #d4a1cc #cccc99 #b6dbf0 #e6daa7 " \
+        "#1f1452 #7a3d47 #0a471f #521433 #29665c #66295c #5c5c1f #416e88 #7b6d30", list, " ")
     split("#fff #222 #fff #fff #222 #fff #222 #222 #222", inks, " ")
     split("#332288 #cc6677 #117733 #882255 #2f8a7b #aa4499 #85852a #3f97c4 #b39a2c", lines, " ")
-    for (k = 0; k < colours; k++) { colour[k] = list[k + 1]; ink[k] = inks[k + 1]; thin[k] = lines[k + 1] }
+    colours = 27
+    for (k = 0; k < colours; k++) {
+        colour[k] = list[k + 1]
+        ink[k] = k < 9 ? inks[k + 1] : k < 18 ? "#222" : "#fff"
+        thin[k] = k < 18 ? lines[k % 9 + 1] : colour[k]
+    }
 
     opened = 0
     for (k = 0; k < segments; k++) run_of[of[k], runs[of[k]]++] = k
@@ -402,37 +585,47 @@ END {
     end = axis_end()
     width = 1600
     left = 290
-    right = width - 100
+    right = width - 106
     scale = (right - left) / end
     by_clock = end >= 7200
     axis_steps()
     lane = servers <= 12 ? 92 : servers <= 24 ? 66 : 46
     roomy = lane > 80
+    level_step = roomy ? 3.5 : 3
+    most_levels = roomy ? 12 : 8
     if (roomy) { links = 13; bar_top = 23; bar_height = 22; job_line = 62; mark = 8; name_line = by_clock ? 26 : 32; line_step = 16 }
     else if (lane > 60) { links = 5; bar_top = 14; bar_height = 16; job_line = 43; mark = 7; name_line = 22; line_step = 15 }
-    else { links = 3; bar_top = 11; bar_height = 12; job_line = 33; mark = 6; name_line = 19; line_step = 15 }
+    else { links = 3; bar_top = 11; bar_height = 12; job_line = 34; mark = 6; name_line = 19; line_step = 15 }
 
     head = 150 + (cut ? 24 : 0)
     top = head
-    bottom = top + 40 + servers * lane
+    # A lane gets as much higher as its links need beyond three levels.
+    bottom = top + 40
+    for (s = 0; s < servers; s++) {
+        link_levels(s)
+        extra[s] = levels[s] > 3 ? int((levels[s] - 3) * level_step + 0.5) : 0
+        lane_top[s] = bottom
+        bottom += lane + extra[s]
+    }
     height = bottom + 40
 
     open_picture(width, height, "Day report: admitted " grouped(admitted) " of " grouped(frame))
     text_at(24, 40, "h", "Day report: admitted " grouped(admitted) " of " grouped(frame))
     text_at(24, 64, "p", many(servers, "server", "servers") " with " sprintf("%.1f", 100 * admitted / frame) " % of the node booked; " \
         many(jobs, "job", "jobs") ", " grouped(jobs - opened) " finished, " grouped(opened) " open; " many(told, "segment", "segments") \
-        (by_clock ? ". By the clock, one tick is one second." : ". Time in ticks."))
+        (by_clock ? ". By the clock, one tick is one second." : ". Time in ticks.") \
+        (servers > colours ? " Colours come again after " colours " servers: point at a segment to see its server." : ""))
     if (cut) text_at(24, 88, "w", "The report shows the first " grouped(shown) " of " grouped(told) " segments: the axis ends with the last one shown, and what comes later is counted at the right.")
     draw_legend(head - 54)
 
     # Lanes by turns on a light ground, and darker where nothing but deadlines is left to show.
-    for (s = 0; s < servers; s += 2) printf "<rect x=\"0\" y=\"%.1f\" width=\"%d\" height=\"%d\" fill=\"#f7f7f5\"/>\n", top + 40 + s * lane, width, lane
+    for (s = 0; s < servers; s += 2) printf "<rect x=\"0\" y=\"%.1f\" width=\"%d\" height=\"%d\" fill=\"#f7f7f5\"/>\n", lane_top[s], width, lane + extra[s]
     if (reported < end && segments + jobs) printf "<rect x=\"%.1f\" y=\"%.1f\" width=\"%.1f\" height=\"%.1f\" fill=\"#e9e9e6\" fill-opacity=\".7\">%s</rect>\n", x(reported), top, right - x(reported), bottom - top, remark("after the last segment, arrival and finish of the report")
     draw_axis(top, bottom)
     printf "<path class=\"b\" d=\"M%.1f %.1fH%.1fM%.1f %.1fH%.1f\"/>\n", left, top, right, left, bottom, right
     node_lane(top)
     if (!segments) text_at(left + 12, top + 23, "d", "nothing runs")
     if (right - x(reported) > 230 && segments + jobs) text_at(x(reported) + 12, top + 23, "d", "nothing is reported here but deadlines")
-    for (s = 0; s < servers; s++) server_lane(s, top + 40 + s * lane)
+    for (s = 0; s < servers; s++) server_lane(s, lane_top[s])
     print "</svg>"
 }
