@@ -27,8 +27,10 @@ static void nothing(void)
 static void short_jobs(void)
 {
     many_servers();
-    for (u32 k = 0; k < 200; k++)
-        add_arrival(LONGEST / 200 * k + below(1000), below(SERVERS_IN_USE), between(1, 50));
+    for (u32 k = 0; k < 200; k++) {
+        u32 at = LONGEST / 200 * k + below(1000), server = below(SERVERS_IN_USE);
+        add_arrival(at, server, between(1, 50));
+    }
 }
 
 // Every server always has work, and every tick postpones: as many segments as ticks.
@@ -46,8 +48,10 @@ static void overload(void)
 {
     enum { ARRIVING = 4096, MEAN = LONGEST / ARRIVING * 12 / 10 };
     many_servers();
-    for (u32 k = 0; k < ARRIVING; k++)
-        add_arrival(LONGEST / ARRIVING * k, below(SERVERS_IN_USE), between(1, 2 * MEAN));
+    for (u32 k = 0; k < ARRIVING; k++) {
+        u32 server = below(SERVERS_IN_USE);
+        add_arrival(LONGEST / ARRIVING * k, server, between(1, 2 * MEAN));
+    }
 }
 
 static const struct {

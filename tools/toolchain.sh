@@ -1,5 +1,7 @@
+# shellcheck shell=sh
 # Read by the scripts that need the toolchain's own compiler or emulator (POSIX sh): finds the toolchain, and says how a
 # program compiled for x86-64 is started here. It sets
+#   machine    the kind of machine, as uname says it
 #   own        the toolchain's folder for this kind of machine
 #   start      a function: start PROGRAM [ARG..] becomes an x86-64 program, so a script that goes on calls it in ( )
 # and ends the script with status 2 and one line where that cannot be.
@@ -9,9 +11,14 @@ fail() {
 	exit 2
 }
 
+# A preloaded object is meant for the caller's own programs: it could change what `read` and `write` do in the program that is started,
+# and on Arm that program's loader complains of it.
+unset LD_PRELOAD
+
 # `rt doc` prints the path of a page two folders below the toolchain's own top.
 command -v rt >/dev/null || fail "the Rattle toolchain is missing: no command rt"
-home=$(rt doc) && home=$(dirname "$(dirname "$home")") || fail "rt doc does not say where the toolchain is"
+home=$(rt doc) || fail "rt doc does not say where the toolchain is"
+home=$(dirname "$(dirname "$home")")
 machine=$(uname -m)
 own=$home/on/$machine
 [ -d "$own/toolchain" ] || fail "the Rattle toolchain has nothing for this kind of machine, $machine"
@@ -30,8 +37,12 @@ x86_64)
 	fi
 	;;
 aarch64)
-	# The emulator moves memory byte by byte where the C library uses `rep movsb`; with this setting it copies by vectors.
-	GLIBC_TUNABLES=glibc.cpu.x86_rep_movsb_threshold=16777216
+	# The emulator moves memory byte by byte where the C library uses `rep movsb`; with this setting it copies by vectors. It goes
+	# behind other settings, and is there already where a script that has read this file starts another.
+	case ${GLIBC_TUNABLES-} in
+	*glibc.cpu.x86_rep_movsb_threshold=*) ;;
+	*) GLIBC_TUNABLES=${GLIBC_TUNABLES:+$GLIBC_TUNABLES:}glibc.cpu.x86_rep_movsb_threshold=16777216 ;;
+	esac
 	export GLIBC_TUNABLES
 	start() {
 		exec "$own/toolchain/bin/qemu-x86_64" "$own/toolchain/lib/ld-linux-x86-64.so.2" --library-path "$own/toolchain/lib" "$@"

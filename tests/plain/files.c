@@ -20,16 +20,31 @@ static u32 some_gap(void)
 
 static void encode_somehow(void)
 {
-    encode(some_gap(), some_gap(), some_gap());
+    u32 gap = some_gap(), second_gap = some_gap();
+    encode(gap, second_gap, some_gap());
+}
+
+static void encode_with_small_gaps(void)
+{
+    u32 gap = below(4), second_gap = below(4);
+    encode(gap, second_gap, below(4));
+}
+
+// Begins a file with a frame, and with a horizon from least to most, which is drawn after the frame was.
+static void begin_with(u32 some_frame, u32 least, u32 most)
+{
+    begin(some_frame, between(least, most));
 }
 
 // ---- A sound file to begin with, small enough that equal deadlines, last ticks and wakings at the limit are common ----
 
 static void small_table(u32 most_servers, u32 most_arrivals)
 {
-    begin(ONE_OF(small_frames), between(1, 80));
-    some_servers(between(1, most_servers), once_in(3) ? frame : between(1, frame));
-    some_arrivals(below(most_arrivals + 1), once_in(4) ? 20 : 5);
+    begin_with(ONE_OF(small_frames), 1, 80);
+    u32 servers = between(1, most_servers);
+    some_servers(servers, once_in(3) ? frame : between(1, frame));
+    u32 arrivals = below(most_arrivals + 1);
+    some_arrivals(arrivals, once_in(4) ? 20 : 5);
 }
 
 // A sound file with at least one server and one arrival.
@@ -126,6 +141,7 @@ static void header_ranges(u32 k)
     static const u32 n[] = {0, 1, 2419199, 2419200, 2419201, 0x80000000u, 0xffffffffu};
     static const u32 wrapping[] = {65, 0x1fffffffu, 0x20000000u, 0x20000001u, 0x80000000u, 0xffffffffu};
     static const u32 wrapping_arrivals[] = {4097, 0x15555555u, 0x15555556u, 0x40000000u, 0x80000000u, 0xffffffffu};
+    u32 servers;
     switch (k % 8) {
     case 0: // the frame, on a table that fits H 1 and every H
         begin(1, 5), add_server(1, 1), add_arrival(0, 0, 3), encode_somehow();
@@ -140,7 +156,7 @@ static void header_ranges(u32 k)
         set_word(HORIZON, 2419198 + k / 8 % 5);
         break;
     case 3: counted(63 + k / 8 % 4, below(3)), encode_somehow(); break;
-    case 4: counted(between(0, 1), k % 3 ? between(4095, 4098) : 0), encode_somehow(); break;
+    case 4: servers = between(0, 1), counted(servers, k % 3 ? between(4095, 4098) : 0), encode_somehow(); break;
     case 5: // counts whose records would take a length that comes round in 32 bits
         counted(2, 2), encode_somehow();
         set_word(SERVERS, wrapping[k / 8 % 6]);
@@ -165,7 +181,7 @@ static void offsets(u32 k)
 {
     u32 servers = once_in(3) ? 0 : between(1, 5), arrivals = servers == 0 || once_in(3) ? 0 : between(1, 5);
     counted(servers, arrivals);
-    encode(below(4), below(4), below(4));
+    encode_with_small_gaps();
     u32 servers_end = server_offset + 8 * server_count, arrivals_end = arrival_offset + 12 * arrival_count;
     u32 off = between(0, 2) - 1; // one before, at, or one after a limit
     switch (k % 13) {
@@ -187,11 +203,11 @@ static void offsets(u32 k)
     case 8: set_word(SERVER_OFFSET, (u32)number()); break;
     case 9: set_word(ARRIVAL_OFFSET, (u32)number()); break;
     case 10: // an offset counts where its count is 0
-        counted(0, 0), encode(below(4), below(4), below(4));
+        counted(0, 0), encode_with_small_gaps();
         set_word(SERVER_OFFSET, once_in(2) ? arrival_offset + off : HEADER + off);
         break;
     case 11:
-        counted(once_in(2), 0), encode(below(4), below(4), below(4));
+        counted(once_in(2), 0), encode_with_small_gaps();
         set_word(ARRIVAL_OFFSET, length + off);
         break;
     default: // the two lists in the other order, each within the file
@@ -225,7 +241,7 @@ static void spoil_server(u32 s)
 
 static void faulty_servers(u32 k)
 {
-    begin(ONE_OF(frames), between(1, 30));
+    begin_with(ONE_OF(frames), 1, 30);
     some_servers(k % 4 ? between(1, 8) : between(9, 64), frame);
     some_arrivals(below(5), 5);
     encode_somehow();
@@ -242,8 +258,9 @@ static void faulty_servers(u32 k)
 static void share_sums(u32 k)
 {
     do { // the last server's share is its budget, and brings the sum near H
-        begin(ONE_OF(frames), between(0, 40));
-        some_servers(k % 5 ? between(1, 7) : between(20, 63), between(1, frame));
+        begin_with(ONE_OF(frames), 0, 40);
+        u32 servers = k % 5 ? between(1, 7) : between(20, 63);
+        some_servers(servers, between(1, frame));
         u32 sum = 0;
         for (u32 s = 0; s < server_count; s++)
             sum += budget[s] * (frame / period[s]);
@@ -303,7 +320,8 @@ static void faulty_arrivals(u32 k)
 // Arrivals where there are no servers, or no moments.
 static void nowhere_to_go(u32 k)
 {
-    begin(ONE_OF(frames), k % 2 ? 0 : between(0, 3));
+    u32 some_frame = ONE_OF(frames);
+    begin(some_frame, k % 2 ? 0 : between(0, 3));
     if (k % 3)
         add_server(1, frame);
     for (u32 arrivals = between(0, 2); arrivals > 0; arrivals--)
@@ -316,7 +334,7 @@ static void nowhere_to_go(u32 k)
 static void several_faults(u32 k)
 {
     sound_file();
-    u32 chosen = between(1, 63);
+    u32 chosen = between(1, 63), place;
     if (chosen & 1)
         for (u32 faults = between(1, 3); faults > 0; faults--)
             spoil_arrival(below(arrival_count));
@@ -325,9 +343,9 @@ static void several_faults(u32 k)
     if (chosen & 4 && once_in(2))
         spoil_server(below(server_count));
     if (chosen & 8 && k % 2)
-        set_word(once_in(2) ? SERVER_OFFSET : ARRIVAL_OFFSET, below(length + 20));
+        place = once_in(2) ? SERVER_OFFSET : ARRIVAL_OFFSET, set_word(place, below(length + 20));
     if (chosen & 16 && k % 4 == 1)
-        set_word(4 * below(5), (u32)number());
+        place = 4 * below(5), set_word(place, (u32)number());
     if (chosen & 32 && k % 8 == 1)
         length = below(HEADER);
 }
@@ -395,8 +413,10 @@ static void ties(u32 k)
     if (k % 3 == 0)
         add_arrival(first, 2, between(1, 9));
     add_arrival(first + later, second, between(1, 2 * t));
-    if (k % 5 == 0)
-        add_arrival(first + later + t, between(0, 2), between(1, t));
+    if (k % 5 == 0) {
+        u32 server = between(0, 2);
+        add_arrival(first + later + t, server, between(1, t));
+    }
     encode_somehow();
 }
 
@@ -410,7 +430,7 @@ static void last_budget_ticks(u32 k)
         add_server(between(1, t), 4 * t);
     u32 at = below(5);
     for (u32 jobs = between(2, 5); jobs > 0; jobs--) {
-        u32 work = larger(1, q * between(1, 3) + (once_in(3) ? between(0, 2) - 1 : 0));
+        u32 budgets = between(1, 3), work = larger(1, q * budgets + (once_in(3) ? between(0, 2) - 1 : 0));
         add_arrival(at, 0, work);
         if (k % 2 && once_in(2))
             add_arrival(at, 1, between(1, 4));
@@ -426,7 +446,8 @@ static void horizon_edges(u32 k)
     some_servers(between(1, 5), frame);
     u32 first = below(10), work = 0;
     for (u32 jobs = between(1, 6); jobs > 0; jobs--) {
-        add_arrival(first + (work > 0 ? below(work) : 0), below(server_count), between(1, 15));
+        u32 at = first + (work > 0 ? below(work) : 0), server = below(server_count);
+        add_arrival(at, server, between(1, 15));
         work += cost[arrival_count - 1];
         if (arrival_count > 1 && moment[arrival_count - 1] < moment[arrival_count - 2])
             moment[arrival_count - 1] = moment[arrival_count - 2];
@@ -457,7 +478,7 @@ static void segment_counts(u32 k)
 static void many_segments(u32 k)
 {
     u32 servers = between(2, 64);
-    begin(servers * between(1, 3), between(2000, 6000));
+    begin_with(servers * between(1, 3), 2000, 6000);
     while (server_count < servers)
         add_server(1, frame);
     for (u32 s = 0; s < servers; s++)
@@ -469,7 +490,7 @@ static void all_servers(u32 k)
 {
     static const u32 wide[] = {720, 5040, 10080, 86400, 302400, 604800};
     do {
-        begin(ONE_OF(wide), between(1000, 8000));
+        begin_with(ONE_OF(wide), 1000, 8000);
         some_servers(64, frame);
     } while (server_count < 64);
     some_arrivals(between(100, 500), k % 2 ? 20 : 80);
@@ -478,7 +499,7 @@ static void all_servers(u32 k)
 
 static void most_arrivals(u32 k)
 {
-    begin(ONE_OF(frames), between(500, 20000));
+    begin_with(ONE_OF(frames), 500, 20000);
     some_servers(between(1, 64), frame);
     some_arrivals(k % 3 ? 4096 : between(4000, 4096), k % 2 ? 5 : 12);
     if (k % 4 == 0 && arrival_count == 4096) // the longest file: all 65,536 bytes
@@ -490,21 +511,25 @@ static void most_arrivals(u32 k)
 // All arrivals at one or two moments, several of them for the same server.
 static void one_moment(u32 k)
 {
-    begin(ONE_OF(small_frames) * 2, between(20, 200));
+    begin_with(ONE_OF(small_frames) * 2, 20, 200);
     some_servers(between(1, 8), frame);
     u32 at = below(horizon), arrivals = between(2, 60);
-    for (u32 i = 0; i < arrivals; i++)
-        add_arrival(k % 2 && i > arrivals / 2 ? horizon - 1 : at, below(server_count), between(1, 8));
+    for (u32 i = 0; i < arrivals; i++) {
+        u32 server = below(server_count);
+        add_arrival(k % 2 && i > arrivals / 2 ? horizon - 1 : at, server, between(1, 8));
+    }
     encode_somehow();
 }
 
 // Costs beyond the horizon and the largest ones, many for one server, so that its waiting work passes 31 bits.
 static void large_costs(u32 k)
 {
-    begin(ONE_OF(frames), between(10, 3000));
+    begin_with(ONE_OF(frames), 10, 3000);
     some_servers(between(1, 6), frame);
-    for (u32 arrivals = k % 8 ? between(1, 9) : 4000; arrivals > 0; arrivals--)
-        add_arrival(k % 2 ? 0 : horizon / 2, below(k % 8 ? server_count : 1), k % 3 ? 604800 : between(horizon, 604800));
+    for (u32 arrivals = k % 8 ? between(1, 9) : 4000; arrivals > 0; arrivals--) {
+        u32 server = below(k % 8 ? server_count : 1);
+        add_arrival(k % 2 ? 0 : horizon / 2, server, k % 3 ? 604800 : between(horizon, 604800));
+    }
     encode_somehow();
 }
 
@@ -517,9 +542,12 @@ static void far_deadlines(u32 k)
     add_server(between(1, 3), k % 2 ? 604800 : t);
     u32 far = k % 2;
     add_arrival(below(10), far, k % 3 ? overrun : 2 * overrun);
-    add_arrival(between(7000, 16000), !far, between(1, 9000));
-    add_arrival(between(16000, 18000), far, between(1, 900));
-    add_arrival(between(18000, 19999), !far, between(1, 900));
+    u32 second = between(7000, 16000);
+    add_arrival(second, !far, between(1, 9000));
+    u32 third = between(16000, 18000);
+    add_arrival(third, far, between(1, 900));
+    u32 last = between(18000, 19999);
+    add_arrival(last, !far, between(1, 900));
     encode_somehow();
 }
 
@@ -527,8 +555,9 @@ static void far_deadlines(u32 k)
 static void loads(u32 k)
 {
     static const u32 tenths[] = {5, 9, 10, 13};
-    begin(ONE_OF(frames), between(500, 6000));
-    some_servers(between(1, 12), k % 2 ? frame : between(1, frame));
+    begin_with(ONE_OF(frames), 500, 6000);
+    u32 servers = between(1, 12);
+    some_servers(servers, k % 2 ? frame : between(1, frame));
     u32 arrivals = between(20, 300);
     some_arrivals(arrivals, larger(1, 2 * (horizon * tenths[k % 4] / 10 / arrivals)));
     encode_somehow();
@@ -537,7 +566,7 @@ static void loads(u32 k)
 // Any frame, also one that few periods divide.
 static void any_frame(u32 k)
 {
-    begin(k % 2 ? between(1, 604800) : between(1, 1000), between(100, 5000));
+    begin_with(k % 2 ? between(1, 604800) : between(1, 1000), 100, 5000);
     some_servers(between(1, 10), frame);
     some_arrivals(between(0, 100), k % 3 ? 30 : 300);
     encode_somehow();
@@ -553,8 +582,10 @@ static void longest_horizon(u32 k)
         break;
     case 1: // work left at the end
         some_servers(2, frame);
-        for (u32 arrivals = 10; arrivals > 0; arrivals--)
-            add_arrival(2419200 - 604800 * between(1, 2), below(server_count), 604800);
+        for (u32 arrivals = 10; arrivals > 0; arrivals--) {
+            u32 at = 2419200 - 604800 * between(1, 2);
+            add_arrival(at, below(server_count), 604800);
+        }
         for (u32 i = 1; i < arrival_count; i++)
             moment[i] = larger(moment[i], moment[i - 1]);
         break;
@@ -582,28 +613,37 @@ static void longest_horizon(u32 k)
 
 // ---- Damaged files ----
 
+static void change_a_bit(void)
+{
+    u32 bit = below(8);
+    bytes[below(length)] ^= (u8)(1 << bit);
+}
+
 static void damaged(u32 k)
 {
+    u32 place;
     small_table(4, 10);
     encode_somehow();
     switch (k % 5) {
     case 0: // some bits
         for (u32 bits = between(1, 4); bits > 0; bits--)
-            bytes[below(length)] ^= (u8)(1 << below(8));
+            change_a_bit();
         break;
     case 1: // some bytes
-        for (u32 changes = between(1, 4); changes > 0; changes--)
-            bytes[below(length)] = (u8)number();
+        for (u32 changes = between(1, 4); changes > 0; changes--) {
+            u8 byte = (u8)number();
+            bytes[below(length)] = byte;
+        }
         break;
     case 2: length = below(length + 1); break;
     case 3: // longer, with some bits changed
         for (u32 more = between(1, 40); more > 0; more--)
             bytes[length++] = (u8)number();
         if (once_in(2))
-            bytes[below(length)] ^= (u8)(1 << below(8));
+            change_a_bit();
         break;
     default: // one word gets a small number, so that it is often still sound
-        set_word(4 * below(length / 4), below(70));
+        place = 4 * below(length / 4), set_word(place, below(70));
         break;
     }
 }

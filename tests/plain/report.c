@@ -1,8 +1,8 @@
 // The day report of document 01 in plain C, for a reader who knows C and that document.
 //
-// It was written from the document's words alone. The scheduler goes through the clock tick by tick, as the section "One
-// moment of the clock" says it, and leaves out no tick. So it serves two ends: tests/differential compares the proved
-// program with it, and bench/run takes it as the plain tick-by-tick program to measure against.
+// It follows the document and uses nothing of the Rattle code. The scheduler goes through the clock tick by tick, as the
+// section "One moment of the clock" says it, and leaves out no tick. So it serves two ends: tests/differential compares the
+// proved program with it, and bench/run takes it as the plain tick-by-tick program to measure against.
 //
 // Standard input: a work file. Standard output: the report. The status is 0 for every file, a refused one too, and 1 where
 // reading or writing fails. The toolchain's compiler brings no header files, so what is used of the C library is declared here.

@@ -1,6 +1,6 @@
 // What the programs that write generated work files share: a source of numbers, the building of a work file, and saving it.
-// Nothing here depends on time, machine or chance: the same seed gives the same files. (Where the arguments of one call draw
-// several numbers, the compiler chooses the order; the toolchain's goes from left to right.)
+// Nothing here depends on time, machine or chance: the same seed gives the same files. C leaves open which argument of a call is
+// worked out first, so no expression draws two numbers whose order it leaves open.
 
 typedef unsigned char u8;
 typedef unsigned int u32;
@@ -200,6 +200,7 @@ static inline void some_arrivals(u32 wanted, u32 largest_cost)
     for (u32 k = 0; k < wanted; k++) {
         if (!once_in(4))
             at = smaller(horizon - 1, at + below(2 * (horizon / wanted) + 2));
-        add_arrival(at, below(server_count), between(1, largest_cost));
+        u32 server = below(server_count);
+        add_arrival(at, server, between(1, largest_cost));
     }
 }
