@@ -28,14 +28,10 @@ for name in $(env | sed -n 's/^\(QEMU_[A-Za-z0-9_]*\)=.*/\1/p'); do
 	unset "$name"
 done
 
+# Programs run under the toolchain's own loader and C library, as rt runs them, whatever C library the machine has.
+loader=$own/toolchain/lib/ld-linux-x86-64.so.2
 case $machine in
-x86_64)
-	if [ -e /lib64/ld-linux-x86-64.so.2 ]; then
-		start() { exec "$@"; }
-	else
-		start() { exec "$own/toolchain/lib/ld-linux-x86-64.so.2" --library-path "$own/toolchain/lib" "$@"; }
-	fi
-	;;
+x86_64) start() { exec "$loader" --library-path "$own/toolchain/lib" "$@"; } ;;
 aarch64)
 	# The emulator moves memory byte by byte where the C library uses `rep movsb`; with this setting it copies by vectors. It goes
 	# behind other settings, and is there already where a script that has read this file starts another.
@@ -44,9 +40,7 @@ aarch64)
 	*) GLIBC_TUNABLES=${GLIBC_TUNABLES:+$GLIBC_TUNABLES:}glibc.cpu.x86_rep_movsb_threshold=16777216 ;;
 	esac
 	export GLIBC_TUNABLES
-	start() {
-		exec "$own/toolchain/bin/qemu-x86_64" "$own/toolchain/lib/ld-linux-x86-64.so.2" --library-path "$own/toolchain/lib" "$@"
-	}
+	start() { exec "$own/toolchain/bin/qemu-x86_64" "$loader" --library-path "$own/toolchain/lib" "$@"; }
 	;;
 *) fail "no way is known to run an x86-64 program on $machine" ;;
 esac
