@@ -1,8 +1,8 @@
 -- What the lists of a run tell is what the run defines.
-use Prim.Native.Nat.{ℕ, zero, suc, _+_, _*_, _/_, _≤_, _<_, min}
+use Prim.Native.Nat.{ℕ, zero, suc, _+_, _*_, _≤_, _<_}
 use borrow.Author.Tests.{eq-eqb, ne-eqb, le-leb, lt-leb, lt-ltb}
 use lib.Dec.{ltb}
-use lib.ListN.{length, take, getD, length-take}
+use lib.ListN.{length, take, getD}
 use lib.Seq.{take-suc}
 use mathlib.Core.Bool.{cond}
 use mathlib.Core.List.{List, [], _∷_, _++_, append-nil, append-assoc}
@@ -14,7 +14,7 @@ use Rattle.counting.specs.Places.{getD-places}
 use Rattle.finish.specs.Finish.{Finish, isOpen, at, shown, servedBy, firstServed, finishList}
 use Rattle.history.specs.Choice.{History}
 use Rattle.moments.specs.Moments.{history}
-use Rattle.sizes.specs.Sizes.{clockEnd, mostArrivals, mostServers, mostShown, openJob, traceNumbers}
+use Rattle.sizes.specs.Sizes.{clockEnd, mostServers, openJob}
 use Rattle.summary.specs.Summary.{blank, finishes, summaries, summaryOf}
 use Rattle.text.specs.Line.{each}
 use Rattle.text.specs.LineLaws.{each-same}

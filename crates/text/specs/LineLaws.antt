@@ -1,8 +1,6 @@
 -- A number in decimal, digit by digit; and things in turn.
-use Prim.Native.Nat.{ℕ, zero, suc, _+_, _*_, _/_, _%_, _^_, _≤_, _<_}
+use Prim.Native.Nat.{ℕ, zero, suc, _/_, _%_, _≤_, _<_}
 use borrow.Author.Tests.{lt-ltb, le-ltb}
-use lib.ListN.{length, length-append}
-use mathlib.Core.Bool.{cond}
 use mathlib.Core.List.{List, [], _∷_, _++_}
 use mathlib.Core.Path.{_≡_, refl, _∙_, ap, ap₂}
 use native.Mathlib.Decide.{decLt}

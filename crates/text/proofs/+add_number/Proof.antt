@@ -1,13 +1,10 @@
 -- `text::add_number` meets its promise: a number below 10 is one digit, and any other is a tenth of it, which is smaller, and its last
 -- digit.
-use Prim.Native.Nat.{ℕ, _<_, _/_, _%_}
-use borrow.Author.Needs.{needs}
+use Prim.Native.Nat.{ℕ, _<_}
 use borrow.Fn.Kinds.{In}
 use borrow.Fn.PlainCycle.{Measures, is, falls, and}
-use mathlib.Core.List.{[], _∷_}
 use mathlib.Core.Path.{sym, _∙_}
 use native.Mathlib.Omega.{arith}
-use Rattle.text.specs.Line.{decimal, digit}
 use Rattle.text.specs.LineLaws.{decimal-last, decimal-more}
 use Rattle.text.specs.PageLaws.{added-as, added-then}
 use Rattle.text.proofs.add_number.Reads as add-number

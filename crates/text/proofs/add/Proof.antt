@@ -1,5 +1,5 @@
 -- `text::add` meets its promise: after k bytes the page is the one that was lent with the first k added.
-use Prim.Native.Nat.{ℕ, _-_, _≤_}
+use Prim.Native.Nat.{_-_, _≤_}
 use borrow.Author.Needs.{needs}
 use lib.ListN.{length, take}
 use mathlib.Core.Path.{_≡_, sym, _∙_, ap}
