@@ -18,8 +18,9 @@ use Rattle.history.specs.Choice.{Choice, nobody, given, History, same}
 use Rattle.history.specs.ChoiceLaws.{same-differ}
 use Rattle.moments.specs.Moments.{history, waitingAt}
 use Rattle.sizes.specs.Sizes.{mostServers}
-use Rattle.summary.specs.Summary.{howMany, ending, leavesWork, interruptedOf}
+use Rattle.summary.specs.Summary.{howMany, leavesWork, interruptedOf}
 use Rattle.trace.specs.declared.Segment.{Segment}
+use Rattle.trace.specs.Ticks.{endOf}
 use Rattle.trace.specs.Trace.{begins, lasting, segmentsOf, begun, trace}
 use Rattle.trace.specs.TraceLaws.{trace-stretch}
 use Rattle.trace.specs.Written.{written, put}
@@ -267,7 +268,7 @@ unfolding lasting
 ends h N b le = omega (arith, first-le (N - b) (λ k. not (same (h b) (h (b + k)))))
 
 -- At the horizon. What ended before the last stretch ended before N, and the last one does not.
-howMany-same : (p q : Segment → Bool) (h : History) (N t : ℕ) → ((s : Segment) → ending s ≤ N → p s ≡ q s) → t ≤ N
+howMany-same : (p q : Segment → Bool) (h : History) (N t : ℕ) → ((s : Segment) → endOf s .tick ≤ N → p s ≡ q s) → t ≤ N
     → howMany p (begun h N t) ≡ howMany q (begun h N t)
 unfolding begun howMany
 howMany-same p q h N zero alike le = refl
@@ -285,7 +286,7 @@ howMany-same p q h N (suc t) alike le =
 module _ {w : Work} {e : ℕ} (i : ℕ) (d : Moment) (s : Stretch w e (w .horizon .tick) (chosen i d)) where
   -- the segments that end before N and leave work
   abbrev before : ℕ → Segment → Bool
-  before j g = ltb (ending g) (w .horizon .tick) && leavesWork w j g
+  before j g = ltb (endOf g .tick) (w .horizon .tick) && leavesWork w j g
 
   -- those that ended before the last stretch are all of them
   pub interrupted-whole : (j : ℕ) → interruptedOf w j ≡ howMany (leavesWork w j) (trace (history w) e)
@@ -307,7 +308,7 @@ module _ {w : Work} {e : ℕ} (i : ℕ) (d : Moment) (s : Stretch w e (w .horizo
               (trace (history w) e)
           go (yes l) =
               howMany-same (before j) (leavesWork w j) (history w) e e
-              (λ g b. rw (lt-ltb (ending g) (w .horizon .tick) (omega (arith, s .late l))))
+              (λ g b. rw (lt-ltb (endOf g .tick) (w .horizon .tick) (omega (arith, s .late l))))
               (omega arith)
           go (no l) =
               subst⁻¹ (λ (n : ℕ). howMany (before j) (trace (history w) n) ≡ howMany (leavesWork w j) (trace (history w) n))

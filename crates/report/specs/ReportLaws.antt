@@ -14,10 +14,11 @@ use Rattle.text.specs.Line.{each}
 use Rattle.text.specs.Page.{Page, added}
 use Rattle.text.specs.PageLaws.{added-as, added-then}
 use Rattle.trace.specs.declared.Segment.{Segment}
+use Rattle.trace.specs.Written.{segmentIn}
 use Rattle.trace.specs.WrittenLaws.{written-length}
 use Rattle.workfile.specs.Work.{Work, work}
 use Rattle.report.specs.DayReport.{admittedLine, segmentLine, segmentLines, segmentsLine, jobLine, serverLine, acceptedReport}
-use Rattle.report.specs.Told.{Told, jobIn, segmentIn, traceOf}
+use Rattle.report.specs.Told.{Told, jobIn, traceOf}
 use Rattle.report.specs.ToldLaws.{jobs-told, segments-told, servers-told}
 
 -- as many as are taken are the same again

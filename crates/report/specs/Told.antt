@@ -1,12 +1,11 @@
 -- How the report's text comes from what a run leaves: segments are read back from the trace list, and finishes from the finish list.
-use Prim.Native.Nat.{ℕ, _+_, _*_}
+use Prim.Native.Nat.{ℕ}
 use lib.Dec.{eqb}
 use lib.ListN.{length, getD}
 use mathlib.Core.Bool.{cond}
 use mathlib.Core.List.{List}
 use mathlib.Core.Path.{_≡_}
 use Rattle.books.specs.Accepted.{Accepted}
-use Rattle.clock.specs.Clock.{moment, ticks}
 use Rattle.finish.specs.Finish.{Finish, isOpen, at, finishList}
 use Rattle.moments.specs.Moments.{history}
 use Rattle.report.specs.DayReport.{jobWith}
@@ -17,16 +16,6 @@ use Rattle.trace.specs.declared.Segment.{Segment}
 use Rattle.trace.specs.Trace.{trace}
 use Rattle.trace.specs.Written.{written}
 use Rattle.workfile.specs.Work.{Work, work}
-
--- the segment in places 4 × k on of a trace list
-abbrev pub segmentIn : List ℕ → ℕ → Segment
-segmentIn list k =
-    record {
-      start = moment (getD list (4 * k) 0);
-      length = ticks (getD list (4 * k + 1) 0);
-      server = getD list (4 * k + 2) 0;
-      deadline = moment (getD list (4 * k + 3) 0);
-    }
 
 -- what a number of the finish list tells
 abbrev pub finishOf : ℕ → Finish

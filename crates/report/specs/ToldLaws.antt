@@ -1,5 +1,5 @@
 -- What the lists of a run tell is what the run defines.
-use Prim.Native.Nat.{ℕ, zero, suc, _+_, _*_, _≤_, _<_}
+use Prim.Native.Nat.{ℕ, zero, suc, _*_, _≤_, _<_}
 use borrow.Author.Tests.{eq-eqb, ne-eqb, le-leb, lt-leb, lt-ltb}
 use lib.Dec.{ltb}
 use lib.ListN.{length, take, getD}
@@ -8,7 +8,6 @@ use mathlib.Core.Bool.{cond}
 use mathlib.Core.List.{List, [], _∷_, _++_, append-nil, append-assoc}
 use mathlib.Core.Path.{_≡_, refl, sym, _∙_, ap, ap₂}
 use native.Mathlib.Decide.{decLt}
-use native.Mathlib.Nat.{le-of-suc-le-suc, not-suc-le-zero}
 use native.Mathlib.Omega.{arith}
 use Rattle.counting.specs.Places.{getD-places}
 use Rattle.finish.specs.Finish.{Finish, isOpen, at, shown, servedBy, firstServed, finishList}
@@ -19,10 +18,11 @@ use Rattle.summary.specs.Summary.{blank, finishes, summaries, summaryOf}
 use Rattle.text.specs.Line.{each}
 use Rattle.text.specs.LineLaws.{each-same}
 use Rattle.trace.specs.declared.Segment.{Segment}
-use Rattle.trace.specs.Written.{written}
+use Rattle.trace.specs.HeldLaws.{segment-at}
+use Rattle.trace.specs.Written.{segmentIn, written}
 use Rattle.workfile.specs.Work.{Work}
 use Rattle.report.specs.DayReport.{jobWith, jobLine, segmentLine, segmentLines, serverLine}
-use Rattle.report.specs.Told.{finishOf, jobIn, segmentIn}
+use Rattle.report.specs.Told.{finishOf, jobIn}
 
 pub finish-of-open : (n : ℕ) → n ≡ openJob → finishOf n ≡ isOpen
 finish-of-open n e = rw (eq-eqb n openJob e)
@@ -63,25 +63,6 @@ unfolding summaries
 servers-told w few =
     each-same (w .table .count) (λ i. serverLine i (getD (summaries w) i blank)) (λ i. serverLine i (summaryOf w i))
     (λ i b. ap (serverLine i) (getD-places mostServers _ i blank (omega arith) ∙ rw (lt-ltb i (w .table .count) b)))
-
--- segment k stands in the list where it fits
-segment-at : (tr : List Segment) (list : List ℕ) (k : ℕ) (d : Segment) → k < length tr → 4 * k + 4 ≤ length list
-    → segmentIn (written tr list) k ≡ getD tr k d
-unfolding written
-segment-at [] list k d h fits = absurd (not-suc-le-zero h)
-segment-at (s ∷ tr) [] k d h fits = let no : ⊥ = omega arith in absurd no
-segment-at (s ∷ tr) (a ∷ []) k d h fits = let no : ⊥ = omega arith in absurd no
-segment-at (s ∷ tr) (a ∷ b ∷ []) k d h fits = let no : ⊥ = omega arith in absurd no
-segment-at (s ∷ tr) (a ∷ b ∷ c ∷ []) k d h fits = let no : ⊥ = omega arith in absurd no
-segment-at (s ∷ tr) (a ∷ b ∷ c ∷ e ∷ list) zero d h fits = refl
-segment-at (s ∷ tr) (a ∷ b ∷ c ∷ e ∷ list) (suc k) d h fits =
-    rw (four 1, four 2, four 3, none) (segment-at tr list k d (le-of-suc-le-suc h) (omega arith))
-  where
-    four : (n : ℕ) → 4 * suc k + n ≡ suc (suc (suc (suc (4 * k + n))))
-    four n = omega arith
-
-    none : 4 * suc k ≡ suc (suc (suc (suc (4 * k))))
-    none = omega arith
 
 segment-lines-last : (l : List Segment) (s : Segment) → segmentLines (l ++ s ∷ []) ≡ segmentLines l ++ segmentLine s
 unfolding segmentLines

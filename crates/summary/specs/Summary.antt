@@ -13,6 +13,7 @@ use Rattle.finish.specs.Finish.{Finish, isOpen, at, finish}
 use Rattle.moments.specs.Moments.{history, postponedBy, waitingAt}
 use Rattle.sizes.specs.Sizes.{mostServers}
 use Rattle.trace.specs.declared.Segment.{Segment}
+use Rattle.trace.specs.Ticks.{endOf}
 use Rattle.trace.specs.Trace.{trace}
 use Rattle.workfile.specs.Work.{Work}
 use Rattle.summary.specs.declared.Response.{Response}
@@ -60,18 +61,14 @@ unfoldable pub howMany : (Segment → Bool) → List Segment → ℕ
 howMany p [] = 0
 howMany p (s ∷ more) = cond (p s) 1 0 + howMany p more
 
--- the moment at which a segment ends
-abbrev pub ending : Segment → ℕ
-ending s = s .start .tick + s .length .ticks
-
 -- a segment of server i that ends "with work of their server still waiting, looked at before the arrivals of the ending moment"
 abbrev pub leavesWork : Work → ℕ → Segment → Bool
-leavesWork w i s = eqb (s .server) i && ltb 0 (waitingAt w i (ending s))
+leavesWork w i s = eqb (s .server) i && ltb 0 (waitingAt w i (endOf s .tick))
 
 -- "Interrupted counts the segments that end before N" and leave work so
 unfoldable pub interruptedOf : Work → ℕ → ℕ
 interruptedOf w i =
-    howMany (λ s. ltb (ending s) (w .horizon .tick) && leavesWork w i s) (trace (history w) (w .horizon .tick))
+    howMany (λ s. ltb (endOf s .tick) (w .horizon .tick) && leavesWork w i s) (trace (history w) (w .horizon .tick))
 
 -- the finishes of a work's run to its horizon
 abbrev pub finishes : Work → ℕ → Finish

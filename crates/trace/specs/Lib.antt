@@ -1,4 +1,8 @@
+pub mod HeldLaws
 pub mod SegmentLaws
+pub mod StretchLaws
+pub mod TickLaws
+pub mod Ticks
 pub mod Trace
 pub mod TraceLaws
 pub mod Written

@@ -1,14 +1,21 @@
 -- How many segments a trace has, and what each of them has.
-use Prim.Native.Nat.{ℕ, zero, suc, _-_, _≤_, _<_}
-use lib.ListN.{length, length-append, take}
+use Prim.Native.Nat.{ℕ, zero, suc, _+_, _-_, _≤_, _<_}
+use borrow.Author.Tests.{not-false}
+use lib.ListN.{length, length-append, take, getD}
 use mathlib.Core.Bool.{Bool, true, false, cond}
 use mathlib.Core.List.{List, [], _∷_, _++_}
-use native.Mathlib.Nat.{le-trans}
+use mathlib.Core.Path.{_≡_, sym}
+use native.Mathlib.Decide.{ℕ-discrete}
+use native.Mathlib.Nat.{add-zero, le-of-suc-le-suc, not-suc-le-zero}
 use native.Mathlib.Omega.{arith}
-use Rattle.counting.specs.First.{first-le}
+use Rattle.counting.specs.First.{first, first-le, first-before, first-passes}
+use Rattle.counting.specs.Tests.{not-both}
 use Rattle.history.specs.Choice.{Choice, nobody, given, History}
+use Rattle.history.specs.ChoiceLaws.{same-equal, same-refl}
 use Rattle.trace.specs.declared.Segment.{Segment}
-use Rattle.trace.specs.Trace.{begins, lasting, segmentsOf, begun}
+use Rattle.trace.specs.StretchLaws.{Alike}
+use Rattle.trace.specs.Trace.{begins, lasting, segmentsOf, begun, trace}
+use Rattle.trace.specs.TraceLaws.{differs}
 
 -- every segment of a list has P
 abbrev pub Every : (Segment → Type 0) → List Segment → Type 0
@@ -24,6 +31,12 @@ pub every-take : (P : Segment → Type 0) (n : ℕ) (l : List Segment) → Every
 every-take P zero l x = tt
 every-take P (suc n) [] x = tt
 every-take P (suc n) (s ∷ l) x = (x .0, every-take P n l (x .1))
+
+-- the one at place k of it
+pub every-at : (P : Segment → Type 0) (l : List Segment) (d : Segment) → Every P l → (k : ℕ) → k < length l → P (getD l k d)
+every-at P [] d x k h = absurd (not-suc-le-zero h)
+every-at P (s ∷ l) d x zero h = x .0
+every-at P (s ∷ l) d x (suc k) h = every-at P l d (x .1) k (le-of-suc-le-suc h)
 
 module _ (h : History) (N : ℕ) where
   -- there are no more segments than ticks
@@ -43,13 +56,31 @@ module _ (h : History) (N : ℕ) where
       one true (given i d) = omega arith
       one false c = omega arith
 
-  -- no stretch is longer than the horizon
-  lasting-le : (b : ℕ) → lasting h N b ≤ N
-  unfolding lasting
-  lasting-le b = le-trans (first-le (N - b) _) (omega arith)
+  -- Of the stretch that begins at b, before the horizon.
+  module _ (b : ℕ) (before : b < N) where
+    -- it has a tick
+    lasting-some : 1 ≤ lasting h N b
+    unfolding lasting
+    lasting-some = go (ℕ-discrete (first (N - b) (differs h b)) 0)
+      where
+        go : Dec (first (N - b) (differs h b) ≡ 0) → 1 ≤ first (N - b) (differs h b)
+        go (no some) = omega arith
+        go (yes none) =
+            not-both (rw none at (first-passes (N - b) (differs h b) (omega arith))) (rw (add-zero b, same-refl (h b)))
 
-  -- what a segment has that begins before N and is no longer than N, every segment has
-  pub begun-every : (P : Segment → Type 0) → ((b k : ℕ) → b < N → k ≤ N → Every P (segmentsOf (h b) b k))
+    -- it ends by the horizon
+    lasting-ends : b + lasting h N b ≤ N
+    unfolding lasting
+    lasting-ends = omega (arith, first-le (N - b) (differs h b))
+
+    -- its ticks are given alike
+    lasting-all : Alike h b (lasting h N b)
+    unfolding lasting
+    lasting-all q l = sym (same-equal (h b) (h (b + q)) (not-false _ (first-before (N - b) (differs h b) q l)))
+
+  -- what the segment of any stretch before N has, every segment has
+  pub begun-every : (P : Segment → Type 0)
+      → ((b k : ℕ) → 1 ≤ k → b + k ≤ N → Alike h b k → Every P (segmentsOf (h b) b k))
       → (t : ℕ) → t ≤ N → Every P (begun h N t)
   unfolding begun
   begun-every P has zero le = tt
@@ -57,5 +88,19 @@ module _ (h : History) (N : ℕ) where
       every-append P (begun h N t) _ (begun-every P has t (omega arith)) (go (begins h t))
     where
       go : (b : Bool) → Every P (cond b (segmentsOf (h t) t (lasting h N t)) [])
-      go true = has t (lasting h N t) (omega arith) (lasting-le t)
+      go true = has t (lasting h N t) (lasting-some t le) (lasting-ends t le) (lasting-all t le)
       go false = tt
+
+-- What a segment is: some ticks before the horizon, all given to its server under its deadline.
+pub record Stretch (h : History) (N : ℕ) (s : Segment) : Type 0 where
+  pub some : 1 ≤ s .length .ticks
+  pub ends : s .start .tick + s .length .ticks ≤ N
+  pub all : (q : ℕ) → q < s .length .ticks → h (s .start .tick + q) ≡ given (s .server) (s .deadline)
+
+-- every segment of a trace is one
+pub trace-stretches : (h : History) (N : ℕ) → Every (Stretch h N) (trace h N)
+trace-stretches h N = begun-every h N (Stretch h N) (λ b k some ends all. go b k some ends (h b) all) N (omega arith)
+  where
+    go : (b k : ℕ) → 1 ≤ k → b + k ≤ N → (c : Choice) → ((q : ℕ) → q < k → h (b + q) ≡ c) → Every (Stretch h N) (segmentsOf c b k)
+    go b k some ends nobody all = tt
+    go b k some ends (given i d) all = (record { some = some; ends = ends; all = all }, tt)

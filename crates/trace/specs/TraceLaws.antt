@@ -14,7 +14,7 @@ use Rattle.trace.specs.Trace.{begins, lasting, segmentsOf, begun, trace}
 
 module _ (h : History) where
   -- the ticks from b on differ from the one at b
-  abbrev differs : ℕ → ℕ → Bool
+  abbrev pub differs : ℕ → ℕ → Bool
   differs b k = not (same (h b) (h (b + k)))
 
   -- a stretch that reaches a beginning ends there

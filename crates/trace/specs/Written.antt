@@ -5,6 +5,7 @@ use lib.Dec.{leb, ltb}
 use lib.ListN.{length, getD}
 use mathlib.Core.Bool.{cond, _&&_}
 use mathlib.Core.List.{List, [], _∷_, _++_}
+use Rattle.clock.specs.Clock.{moment, ticks}
 use Rattle.counting.specs.Places.{places}
 use Rattle.trace.specs.declared.Segment.{Segment}
 
@@ -20,6 +21,16 @@ written (s ∷ more) [] = []
 written (s ∷ more) (a ∷ []) = a ∷ []
 written (s ∷ more) (a ∷ b ∷ []) = a ∷ b ∷ []
 written (s ∷ more) (a ∷ b ∷ c ∷ []) = a ∷ b ∷ c ∷ []
+
+-- the segment in places 4 × k on of a trace list
+abbrev pub segmentIn : List ℕ → ℕ → Segment
+segmentIn list k =
+    record {
+      start = moment (getD list (4 * k) 0);
+      length = ticks (getD list (4 * k + 1) 0);
+      server = getD list (4 * k + 2) 0;
+      deadline = moment (getD list (4 * k + 3) 0);
+    }
 
 -- place p of a list with segment k in its four places, from 4 × k on; any other place is untouched
 abbrev pub placed : ℕ → Segment → List ℕ → ℕ → ℕ
