@@ -9,7 +9,8 @@ use Rattle.clock.specs.declared.Moment.{Moment}
 use Rattle.clock.specs.Clock.{until}
 use Rattle.counting.specs.Tests.{not-both, or-true, or-false}
 use Rattle.server.specs.declared.Server.{Server}
-use Rattle.server.specs.Moves.{renews, renewed, withWork, arrived, oneTickLess, postponed, served}
+use Rattle.server.specs.Moves.{renews, renewed, withWork, arrived, oneTickLess, postponed, spent, served}
+use Rattle.server.specs.Server.{bookingOf, idle}
 
 -- "d is at or before t"
 pub renews-passed : (s : Server) (t : Moment) → s .deadline .tick ≤ t .tick → renews s t ≡ true
@@ -53,6 +54,24 @@ arrived-waiting s t cost = go (eqb (s .waiting .ticks) 0) (renews s t)
     go true true = refl
     go true false = refl
     go false k = refl
+
+-- no move alters a booking
+pub arrived-booking : (s : Server) (t : Moment) (cost : Length) → bookingOf (arrived s t cost) ≡ bookingOf s
+unfolding arrived
+arrived-booking s t cost = go (idle s) (renews s t)
+  where
+    go : (i k : Bool) → bookingOf (withWork (cond i (cond k (renewed s t) s) s) cost) ≡ bookingOf s
+    go true true = refl
+    go true false = refl
+    go false k = refl
+
+pub served-booking : (s : Server) → bookingOf (served s) ≡ bookingOf s
+unfolding served
+served-booking s = go (spent (oneTickLess s))
+  where
+    go : (e : Bool) → bookingOf (cond e (postponed (oneTickLess s)) (oneTickLess s)) ≡ bookingOf s
+    go true = refl
+    go false = refl
 
 pub served-last : (s : Server) → s .remaining .ticks - 1 ≡ 0 → served s ≡ postponed (oneTickLess s)
 unfolding served

@@ -18,6 +18,10 @@ fresh b =
       waiting = ticks 0;
     }
 
+-- the booking of a server: no move alters it
+abbrev pub bookingOf : Server → Booking
+bookingOf s = record { budget = s .budget; period = s .period }
+
 -- a place behind the servers, at which every number is 0
 abbrev pub blank : Server
 blank = fresh (booked 0 0)
