@@ -31,6 +31,23 @@ same-differ x y n = go (same x y) refl
     go true e = absurd (n (same-equal x y e))
     go false e = e
 
+-- a tick that is given to a server is not idle, and tells its deadline
+isGiven : Choice → Bool
+isGiven nobody = false
+isGiven (given i d) = true
+
+pub nobody≢given : {i : ℕ} {d : Moment} → nobody ≡ given i d → ⊥
+unfolding isGiven
+nobody≢given e = false≢true (ap isGiven e)
+
+deadlineOf : Choice → Moment
+deadlineOf nobody = moment 0
+deadlineOf (given i d) = d
+
+pub given-deadline : {i j : ℕ} {d e : Moment} → given i d ≡ given j e → d ≡ e
+unfolding deadlineOf
+given-deadline e = ap deadlineOf e
+
 -- Of a stretch of k ticks from t on that are all given to server i.
 module _ (h : History) (i : ℕ) where
   pub served-start : served h i 0 ≡ 0

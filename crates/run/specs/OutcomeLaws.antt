@@ -2,8 +2,8 @@
 use Prim.Native.Nat.{ℕ}
 use lib.ListN.{length}
 use mathlib.Core.List.{List}
-use mathlib.Core.Path.{_≡_, _∙_, ap, ap₂}
-use Rattle.refusal.specs.Refusals.{Said, refused, accepted}
+use mathlib.Core.Path.{_≡_, refl, _∙_, ap, ap₂}
+use Rattle.refusal.specs.Refusals.{Said, refused, gave, accepted}
 use Rattle.summary.specs.declared.Summary.{Summary}
 use Rattle.workfile.specs.Judgement.{judged}
 use Rattle.workfile.specs.Work.{work}
@@ -26,3 +26,12 @@ module _ (file list ends : List ℕ) where
       → outcome file list ends ≡ refusing number place list ends
   unfolding outcome
   outcome-refused e = ap (λ (s : Said (Unit {0})). outcomeOf s (work file) list ends) e
+
+  -- the verdict of a run is the judgement of its file
+  pub outcome-verdict : outcome file list ends .verdict ≡ judged file (length ends)
+  unfolding outcome
+  outcome-verdict = go (judged file (length ends))
+    where
+      go : (s : Said (Unit {0})) → outcomeOf s (work file) list ends .verdict ≡ s
+      go (refused number place) = refl
+      go (gave u) = refl

@@ -1,0 +1,46 @@
+-- Demand 3: "On an admitted table, from a fresh start, under any arrivals: take a server and a moment a when it has no work waiting, and
+-- any moment b from a on. The ticks that it gets from a on under deadlines no later than b, times its period, are at most (b minus a)
+-- times its budget. And at every moment, once that moment's arrivals are in, each server with work waiting has its deadline still ahead;
+-- so each tick ends no later than the deadline that it was given under, however far any society overruns."
+use Prim.Native.Nat.{ℕ, _*_, _≤_, _<_}
+use mathlib.Core.Bool.{Bool, true, false}
+use mathlib.Core.List.{List}
+use mathlib.Core.Path.{_≡_}
+use Rattle.booking.specs.Admission.{Table}
+use Rattle.clock.specs.declared.Moment.{Moment}
+use Rattle.clock.specs.Clock.{until}
+use Rattle.dispatcher.specs.declared.Dispatcher.{Dispatcher}
+use Rattle.dispatcher.specs.Moves.{ranOne, tick}
+use Rattle.dispatcher.specs.Pick.{serverAt}
+use Rattle.refusal.specs.Refusals.{gave}
+use Rattle.server.specs.Server.{idle}
+use Rattle.demand_3.specs.Course.{Move, after, got}
+
+-- Of a table's dispatcher at its start.
+module _ (start : Dispatcher) (t : Table) where
+  -- A server has no work waiting where some moves have led to, at moment a, be it before, among or after the arrivals of a. It may get
+  -- so many ticks by any further moves, for any b. (Where b lies before a, that is none.)
+  abbrev pub Bandwidth : Type 0
+  Bandwidth =
+      (moves : List Move) (i : ℕ) → i < t .count → idle (serverAt (after start moves) i) ≡ true
+      → (b : Moment) (further : List Move)
+      → got i b (after start moves) further * t .booking i .period .ticks
+      ≤ until (after start moves .clock) b .ticks * t .booking i .budget .ticks
+
+  -- wherever moves have led to, a server with work waiting has its deadline ahead
+  abbrev pub DeadlinesAhead : Type 0
+  DeadlinesAhead =
+      (moves : List Move) (i : ℕ) → i < t .count → idle (serverAt (after start moves) i) ≡ false
+      → after start moves .clock .tick < serverAt (after start moves) i .deadline .tick
+
+  -- and a tick that is given to a server ends no later than the deadline that it was given under
+  abbrev pub TicksInTime : Type 0
+  TicksInTime =
+      (moves : List Move) (i : ℕ) (deadline : Moment) (postponed : Bool)
+      → tick (after start moves) .answer ≡ gave (ranOne i deadline postponed)
+      → tick (after start moves) .dispatcher .clock .tick ≤ deadline .tick
+
+  pub record Demand3 : Type 0 where
+    pub bandwidth : Bandwidth
+    pub deadlines-ahead : DeadlinesAhead
+    pub ticks-in-time : TicksInTime

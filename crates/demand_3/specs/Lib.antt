@@ -1,0 +1,15 @@
+pub mod AheadLaws
+pub mod BandwidthLaws
+pub mod Course
+pub mod CourseLaws
+pub mod Demand3
+pub mod Demand3Laws
+pub mod FileLaws
+pub mod Files
+pub mod Live
+pub mod LiveLaws
+pub mod MovedLaws
+pub mod RunAnswerLaws
+pub mod RunLaws
+pub mod Runs
+pub mod StandingLaws
