@@ -9,7 +9,7 @@ use Rattle.clock.specs.declared.Length.{Length}
 use Rattle.counting.specs.Below.{below-suc}
 use Rattle.counting.specs.First.{first-is, first-none, first-before}
 use Rattle.counting.specs.Sum.{sum, sum-le}
-use Rattle.refusal.specs.Told.{refused≢gave}
+use Rattle.refusal.specs.AcceptedLaws.{accepted-test}
 use Rattle.refusal.specs.Refusals.{refused, accepted}
 use Rattle.booking.specs.Admission.{Table, firstFaulty, shares, admission}
 use Rattle.booking.specs.Share.{faulty, share, shareOf}
@@ -77,14 +77,12 @@ module _ (H : Length) (t : Table) where
     pub within : shares H t ≤ H .ticks
 
   pub admitted : admission H t ≡ accepted → Admitted
-  admitted e = go (ltb (firstFaulty H t) (t .count)) refl (ltb (H .ticks) (shares H t)) refl
-    where
-      go : (f : Bool) → ltb (firstFaulty H t) (t .count) ≡ f → (s : Bool) → ltb (H .ticks) (shares H t) ≡ s → Admitted
-      go true f s o =
-          let four : admission H t ≡ refused 4 (firstFaulty H t) = rw f in absurd (refused≢gave (sym four ∙ e))
-      go false f true o = let five : admission H t ≡ refused 5 0 = rw (f, o) in absurd (refused≢gave (sym five ∙ e))
-      go false f false o =
-          record {
-            sound = λ k h. sound H (t .booking k) (first-before (t .count) (λ j. faulty H (t .booking j)) k (le-trans h (ltb-false _ _ f)));
-            within = ltb-false _ _ o;
-          }
+  admitted e =
+      let four = accepted-test 4 (firstFaulty H t) (ltb (firstFaulty H t) (t .count)) _ e in
+      let five = accepted-test 5 0 _ accepted (four .1) in
+      record {
+        sound = λ k h.
+            sound H (t .booking k)
+            (first-before (t .count) (λ j. faulty H (t .booking j)) k (le-trans h (ltb-false _ _ (four .0))));
+        within = ltb-false _ _ (five .0);
+      }

@@ -3,9 +3,9 @@ use Prim.Native.Nat.{ℕ, _/_, _%_, _≤_}
 use borrow.Author.Tests.{eqb-true, ltb-false, not-false}
 use lib.Dec.{ltb}
 use lib.ListN.{length}
-use mathlib.Core.Bool.{Bool, true, false}
+use mathlib.Core.Bool.{true, false}
 use mathlib.Core.List.{List}
-use mathlib.Core.Path.{_≡_, refl, sym, _∙_}
+use mathlib.Core.Path.{_≡_, refl}
 use native.Mathlib.Nat.{not-suc-le-zero}
 use native.Mathlib.Omega.{arith}
 use Rattle.booking.specs.Admission.{admission}
@@ -17,7 +17,7 @@ use Rattle.counting.specs.Tests.{none-of-four}
 use Rattle.dispatcher.specs.Start.{atStart}
 use Rattle.dispatcher.specs.StartLaws.{admitted-within, start-within}
 use Rattle.dispatcher.specs.Within.{Within}
-use Rattle.refusal.specs.Told.{refused≢gave}
+use Rattle.refusal.specs.AcceptedLaws.{accepted-test}
 use Rattle.refusal.specs.Refusals.{Said, refused, gave, accepted}
 use Rattle.sizes.specs.Sizes.{mostFrame, mostServers}
 use Rattle.opening.specs.Opening.{listed, outOfRange, judged, noServers, opening}
@@ -48,18 +48,16 @@ in-range numbers H e =
     }
 
 -- what an accepted table is
-accepted-not-out : (l : List ℕ) (H : Length) → judged l H ≡ accepted → outOfRange (length l) H ≡ false
-accepted-not-out l H e = go (outOfRange (length l) H) refl
-  where
-    go : (o : Bool) → outOfRange (length l) H ≡ o → outOfRange (length l) H ≡ false
-    go true o = absurd (refused≢gave (sym (judged-out-of-range l H o) ∙ e))
-    go false o = o
+accepted-parts : (l : List ℕ) (H : Length) → judged l H ≡ accepted
+    → (outOfRange (length l) H ≡ false) × (admission H (listed l) ≡ accepted)
+unfolding judged
+accepted-parts l H e = accepted-test 2 0 (outOfRange (length l) H) (admission H (listed l)) e
 
 pub accepted-in-range : (l : List ℕ) (H : Length) → judged l H ≡ accepted → InRange (length l) H
-accepted-in-range l H e = in-range (length l) H (accepted-not-out l H e)
+accepted-in-range l H e = in-range (length l) H (accepted-parts l H e .0)
 
 pub accepted-admitted : (l : List ℕ) (H : Length) → judged l H ≡ accepted → Admitted H (listed l)
-accepted-admitted l H e = admitted H (listed l) (sym (judged-in-range l H (accepted-not-out l H e)) ∙ e)
+accepted-admitted l H e = admitted H (listed l) (accepted-parts l H e .1)
 
 pub opening-accepted : (l : List ℕ) (H : Length) → judged l H ≡ accepted
     → opening l H ≡ record { answer = accepted; dispatcher = atStart H (listed l) }

@@ -1,2 +1,3 @@
+pub mod AcceptedLaws
 pub mod Refusals
 pub mod Told

@@ -3,10 +3,10 @@ use Prim.Native.Nat.{ℕ, zero, suc, _≤_, _<_}
 use borrow.Author.Tests.{leb-false, ltb-false}
 use lib.Dec.{ltb}
 use lib.ListN.{length}
-use mathlib.Core.Bool.{Bool, true, false, cond}
+use mathlib.Core.Bool.{false}
 use mathlib.Core.List.{List}
 use mathlib.Core.Logic.{⊎-elim}
-use mathlib.Core.Path.{_≡_, refl}
+use mathlib.Core.Path.{_≡_}
 use native.Mathlib.Nat.{le-refl, le-trans, eq-or-lt-of-le, le-of-suc-le-suc, not-suc-le-zero}
 use native.Mathlib.Omega.{arith}
 use Rattle.arrival.specs.Arrival.{faulty}
@@ -14,8 +14,8 @@ use Rattle.arrival.specs.ArrivalLaws.{Sound, sound}
 use Rattle.booking.specs.Admission.{admission}
 use Rattle.booking.specs.AdmissionLaws.{Admitted, admitted}
 use Rattle.counting.specs.Below.{below-suc}
-use Rattle.refusal.specs.Refusals.{Said, refused, gave, accepted, andThen}
-use Rattle.refusal.specs.Told.{refused≢gave}
+use Rattle.refusal.specs.AcceptedLaws.{accepted-test, accepted-both}
+use Rattle.refusal.specs.Refusals.{accepted}
 use Rattle.sizes.specs.Sizes.{clockEnd, mostArrivals, mostFrame, mostServers}
 use Rattle.workfile.specs.Judgement.{lengthOutOfRange, sizesOutOfRange, layoutBroken, backward, late, arrivalJudged, arrivalsJudged, workJudged, judged}
 use Rattle.workfile.specs.JudgementLaws.{Placed, sized, laid}
@@ -44,23 +44,13 @@ in-order-all {w} fit j (suc k) h m =
     (λ (b : j < suc k). le-trans (in-order-all fit j k (le-of-suc-le-suc b) (omega arith)) (fit .in-order k m))
     (eq-or-lt-of-le h)
 
--- what is accepted passed the test before it, and both of two judgements
-passed-test : (n p : ℕ) (test : Bool) (rest : Said (Unit {0})) → cond test (refused n p) rest ≡ accepted
-    → (test ≡ false) × (rest ≡ accepted)
-passed-test n p true rest e = absurd (refused≢gave e)
-passed-test n p false rest e = (refl, e)
-
-both-accept : (a b : Said (Unit {0})) → andThen a b ≡ accepted → (a ≡ accepted) × (b ≡ accepted)
-both-accept (refused n p) b e = absurd (refused≢gave e)
-both-accept (gave u) b e = (refl, e)
-
 module _ (w : Work) where
   -- each of the first m arrivals is accepted
   each-accepted : (m : ℕ) → arrivalsJudged w m ≡ accepted → (k : ℕ) → k < m → arrivalJudged w k ≡ accepted
   unfolding arrivalsJudged
   each-accepted zero e k h = absurd (not-suc-le-zero h)
   each-accepted (suc m) e k h =
-      let both = both-accept (arrivalsJudged w m) (arrivalJudged w m) e in
+      let both = accepted-both (arrivalsJudged w m) (arrivalJudged w m) e in
       below-suc (λ (j : ℕ). arrivalJudged w j ≡ accepted) m (each-accepted m (both .0)) (both .1) k h
 
   -- and passed the three tests
@@ -68,9 +58,9 @@ module _ (w : Work) where
       → (faulty (w .table .count) (w .arrival k .server) (w .arrival k .cost) ≡ false) × (backward w k ≡ false) × (late w k ≡ false)
   unfolding arrivalJudged
   tests-passed k e =
-      let six = passed-test 6 k (faulty (w .table .count) (w .arrival k .server) (w .arrival k .cost)) _ e in
-      let seven = passed-test 7 k (backward w k) _ (six .1) in
-      let eight = passed-test 8 k (late w k) _ (seven .1) in
+      let six = accepted-test 6 k (faulty (w .table .count) (w .arrival k .server) (w .arrival k .cost)) _ e in
+      let seven = accepted-test 7 k (backward w k) _ (six .1) in
+      let eight = accepted-test 8 k (late w k) _ (seven .1) in
       (six .0, seven .0, eight .0)
 
 module _ (file : List ℕ) (places : ℕ) (e : judged file places ≡ accepted) where
@@ -79,9 +69,9 @@ module _ (file : List ℕ) (places : ℕ) (e : judged file places ≡ accepted) 
       × (workJudged (work file) places ≡ accepted)
   unfolding judged
   three-passed =
-      let one = passed-test 1 0 (lengthOutOfRange (length file)) _ e in
-      let two = passed-test 2 0 (sizesOutOfRange (header file)) _ (one .1) in
-      let three = passed-test 3 0 (layoutBroken (header file) (length file)) _ (two .1) in
+      let one = accepted-test 1 0 (lengthOutOfRange (length file)) _ e in
+      let two = accepted-test 2 0 (sizesOutOfRange (header file)) _ (one .1) in
+      let three = accepted-test 3 0 (layoutBroken (header file) (length file)) _ (two .1) in
       (two .0, three .0, three .1)
 
   -- the records of an accepted file lie in the file
@@ -94,9 +84,9 @@ module _ (file : List ℕ) (places : ℕ) (e : judged file places ≡ accepted) 
   unfolding workJudged work
   judged-fit =
       let w = work file in
-      let five = both-accept (admission (w .frame) (w .table)) _ (three-passed .2) in
-      let eight = both-accept (arrivalsJudged w (w .arrivals)) _ (five .1) in
-      let nine = passed-test 9 0 (ltb places (w .arrivals)) _ (eight .1) in
+      let five = accepted-both (admission (w .frame) (w .table)) _ (three-passed .2) in
+      let eight = accepted-both (arrivalsJudged w (w .arrivals)) _ (five .1) in
+      let nine = accepted-test 9 0 (ltb places (w .arrivals)) _ (eight .1) in
       let fits = sized (header file) (three-passed .0) in
       let arrival : (k : ℕ) → k < w .arrivals → arrivalJudged w k ≡ accepted = each-accepted w (w .arrivals) (eight .0) in
       record {
