@@ -1,5 +1,7 @@
 pub mod Accepted
+pub mod AllFinished
 pub mod AtLeastOne
+pub mod Before
 pub mod BudgetLaws
 pub mod Budgets
 pub mod Came

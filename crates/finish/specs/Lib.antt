@@ -1,2 +1,3 @@
 pub mod Finish
 pub mod FinishLaws
+pub mod ListLaws

@@ -11,6 +11,7 @@ use native.Mathlib.Decide.{decLt}
 use native.Mathlib.Omega.{arith}
 use Rattle.counting.specs.Places.{getD-places}
 use Rattle.finish.specs.Finish.{Finish, isOpen, at, shown, servedBy, firstServed, finishList}
+use Rattle.finish.specs.ListLaws.{list-shows}
 use Rattle.history.specs.Choice.{History}
 use Rattle.moments.specs.Moments.{history}
 use Rattle.sizes.specs.Sizes.{clockEnd, mostServers, openJob}
@@ -40,20 +41,13 @@ finish-told h i work N few = go (decLt N (firstServed h i work N))
     go (no early) =
         rw (le-leb (firstServed h i work N) N (omega arith)) (finish-of-at (firstServed h i work N) (λ e. omega arith))
 
--- place k of the finish list
-place-of : (m : ℕ) (f : ℕ → Finish) (before : List ℕ) (k : ℕ) → k < m → m ≤ length before
-    → getD (finishList m f before) k 0 ≡ shown (f k)
-unfolding finishList
-place-of m f before k b long =
-    getD-places (length before) (λ j. cond (ltb j m) (shown (f j)) (getD before j 0)) k 0 (omega arith) ∙ rw (lt-ltb k m b)
-
 -- the job lines by the finish list are those of the run
 pub jobs-told : (w : Work) (before : List ℕ) → w .horizon .tick ≤ clockEnd → w .arrivals ≤ length before
     → each (w .arrivals) (jobIn w (finishList (w .arrivals) (finishes w) before)) ≡ each (w .arrivals) (jobLine w)
 unfolding jobLine
 jobs-told w before few long =
     each-same (w .arrivals) (jobIn w (finishList (w .arrivals) (finishes w) before)) (jobLine w)
-    (λ k b. ap (λ (n : ℕ). jobWith (w .arrival k) k (finishOf n)) (place-of (w .arrivals) (finishes w) before k b long)
+    (λ k b. ap (λ (n : ℕ). jobWith (w .arrival k) k (finishOf n)) (list-shows (w .arrivals) (finishes w) before k b long)
     ∙ ap (jobWith (w .arrival k) k) (finish-told (history w) _ _ (w .horizon .tick) few))
 
 -- the server lines by the records are those of the run
