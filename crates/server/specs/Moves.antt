@@ -17,16 +17,20 @@ renews s t =
     leb (until t (s .deadline) .ticks * s .budget .ticks) (s .remaining .ticks * s .period .ticks)
     || leb (s .deadline .tick) (t .tick)
 
--- "d becomes t + T and c becomes Q"
-abbrev pub renewed : Server → Moment → Server
-renewed s t =
+-- the server with a full budget up to another deadline: "c becomes Q"
+abbrev pub refilled : Server → Moment → Server
+refilled s deadline =
     record {
       budget = s .budget;
       period = s .period;
       remaining = s .budget;
-      deadline = later t (s .period);
+      deadline = deadline;
       waiting = s .waiting;
     }
+
+-- "d becomes t + T and c becomes Q"
+abbrev pub renewed : Server → Moment → Server
+renewed s t = refilled s (later t (s .period))
 
 -- "otherwise c and d are kept"
 abbrev pub woken : Server → Moment → Server
@@ -67,14 +71,7 @@ oneTickLess s =
 
 -- "c becomes Q and d grows by T"
 abbrev pub postponed : Server → Server
-postponed s =
-    record {
-      budget = s .budget;
-      period = s .period;
-      remaining = s .budget;
-      deadline = later (s .deadline) (s .period);
-      waiting = s .waiting;
-    }
+postponed s = refilled s (later (s .deadline) (s .period))
 
 -- "If c is now 0"
 abbrev pub spent : Server → Bool

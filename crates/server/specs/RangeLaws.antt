@@ -1,7 +1,7 @@
 -- Every move keeps a server's numbers within their ranges.
 use Prim.Native.Nat.{_+_, _-_, _*_, _≤_}
 use lib.Dec.{eqb, lit≤}
-use mathlib.Core.Bool.{Bool, true, false}
+use mathlib.Core.Bool.{Bool, true, false, cond}
 use mathlib.Core.Logic.{inl, inr, ⊎-elim}
 use mathlib.Core.Path.{_≡_, refl}
 use native.Mathlib.Nat.{le-trans, mul-le-mul, mul-le-mul-left, mul-le-mul-right, pos-of-ne-zero}
@@ -13,8 +13,8 @@ use Rattle.clock.specs.declared.Moment.{Moment}
 use Rattle.clock.specs.Clock.{lastTick, moment, until}
 use Rattle.sizes.specs.Sizes.{clockEnd, mostFrame, mostWaiting}
 use Rattle.server.specs.declared.Server.{Server}
-use Rattle.server.specs.MoveLaws.{keeps-ahead, arrived-busy, arrived-renewed, arrived-kept, served-last, served-more}
-use Rattle.server.specs.Moves.{renews, renewed, withWork, arrived, served}
+use Rattle.server.specs.MoveLaws.{keeps-ahead, arrived-busy, arrived-renewed, arrived-kept}
+use Rattle.server.specs.Moves.{renews, renewed, withWork, arrived, oneTickLess, postponed, spent, served}
 use Rattle.server.specs.Ranges.{Ranged}
 use Rattle.server.specs.Server.{fresh}
 
@@ -97,11 +97,11 @@ arrived-ranged s t cost r h = go (eqb (s .waiting .ticks) 0) refl (renews s t) r
 
 -- step 3, which ends one tick later
 pub served-ranged : (s : Server) (t : Moment) → Ranged t s → (s .waiting .ticks ≡ 0 → ⊥) → Ranged (moment (t .tick + 1)) (served s)
-served-ranged s t r w = go (eqb (s .remaining .ticks - 1) 0) refl
+unfolding served
+served-ranged s t r w = go (spent (oneTickLess s)) refl
   where
-    go : (b : Bool) → eqb (s .remaining .ticks - 1) 0 ≡ b → Ranged (moment (t .tick + 1)) (served s)
+    go : (b : Bool) → spent (oneTickLess s) ≡ b → Ranged (moment (t .tick + 1)) (cond b (postponed (oneTickLess s)) (oneTickLess s))
     go true e =
-        rw (served-last s (eqb-true _ _ e))
         record {
           budget = r .budget;
           fits = r .fits;
@@ -112,8 +112,6 @@ served-ranged s t r w = go (eqb (s .remaining .ticks - 1) 0) refl
           charged = inl (r .budget);
         }
     go false e =
-        let left : 1 ≤ s .remaining .ticks - 1 = pos-of-ne-zero (eqb-false _ _ e) in
-        rw (served-more s (eqb-false _ _ e))
         record {
           budget = r .budget;
           fits = r .fits;
@@ -121,7 +119,7 @@ served-ranged s t r w = go (eqb (s .remaining .ticks - 1) 0) refl
           remaining = omega (arith, r .remaining);
           waiting = omega (arith, r .waiting);
           deadline = omega (arith, r .deadline);
-          charged = inl left;
+          charged = inl (pos-of-ne-zero (eqb-false _ _ e));
         }
 
 -- Within their ranges the numbers that the moves work out fit 64 bits.
