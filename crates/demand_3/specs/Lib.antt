@@ -4,12 +4,12 @@ pub mod Course
 pub mod CourseLaws
 pub mod Demand3
 pub mod Demand3Laws
-pub mod FileLaws
 pub mod Files
+pub mod FilesLaws
 pub mod Live
 pub mod LiveLaws
 pub mod MovedLaws
-pub mod RunAnswerLaws
-pub mod RunLaws
+pub mod RunCourseLaws
 pub mod Runs
+pub mod RunsLaws
 pub mod StandingLaws

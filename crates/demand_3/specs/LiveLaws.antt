@@ -1,15 +1,14 @@
 -- Demand 3 for whoever calls the live moves: after a successful opening, whatever is accepted or refused, in terms of what they answer.
 use Prim.Native.Nat.{ℕ, _+_, _*_, _≤_, _<_}
-use mathlib.Core.Bool.{Bool, true, false, cond}
+use mathlib.Core.Bool.{Bool, true, cond}
 use mathlib.Core.List.{List, [], _∷_, _++_}
-use mathlib.Core.Path.{_≡_, refl, sym, _∙_, ap, ap₂, subst, subst⁻¹}
+use mathlib.Core.Path.{_≡_, refl, sym, _∙_, ap, ap₂, subst}
 use native.Mathlib.Nat.{add-zero}
 use Rattle.clock.specs.declared.Length.{Length}
 use Rattle.clock.specs.declared.Moment.{Moment}
 use Rattle.clock.specs.Clock.{until}
 use Rattle.dispatcher.specs.declared.Arrived.{Arrived}
 use Rattle.dispatcher.specs.declared.Dispatcher.{Dispatcher}
-use Rattle.dispatcher.specs.declared.TickAnswer.the-variants.{Ran}
 use Rattle.dispatcher.specs.declared.Ticked.{Ticked}
 use Rattle.dispatcher.specs.Moves.{Moved, Turn, ranOne, arrival, arrivalSays, tick, tickSays, turnOf}
 use Rattle.dispatcher.specs.Pick.{serverAt}
@@ -24,11 +23,11 @@ use Rattle.demand_3.specs.Course.{Move, anArrival, aTick, moved, after, 
 use Rattle.demand_3.specs.CourseLaws.{under-nobody, after-last, got-last}
 use Rattle.demand_3.specs.Demand3.{Demand3}
 use Rattle.demand_3.specs.Demand3Laws.{demand-3}
-use Rattle.demand_3.specs.Live.{Live, Since}
+use Rattle.demand_3.specs.Live.{Live, Since, LiveDemand3}
 
 -- demand 3 from every successful opening on
-pub live-demand-3 : (l : List ℕ) (H : Length) → judged l H ≡ accepted → Demand3 (opening l H .dispatcher) (listed l)
-live-demand-3 l H e =
+pub opening-demand-3 : (l : List ℕ) (H : Length) → judged l H ≡ accepted → Demand3 (opening l H .dispatcher) (listed l)
+opening-demand-3 l H e =
     let sizes = accepted-in-range l H e in
     rw (opening-accepted l H e)
     (demand-3 H (listed l) (sizes .from) (sizes .to) (sizes .few) (accepted-admitted l H e))
@@ -62,36 +61,25 @@ module _ {l : List ℕ} {H : Length} where
     live-ticked r e = live-moved ok aTick (r .dispatcher) (ap (λ (m : Moved Turn). m .dispatcher) e)
 
     demand : Demand3 (opening l H .dispatcher) (listed l)
-    demand = live-demand-3 l H (ok .opened)
+    demand = opening-demand-3 l H (ok .opened)
 
-    -- a server with work waiting has its deadline ahead
-    pub live-ahead : (i : ℕ) → i < listed l .count → idle (serverAt d i) ≡ false → d .clock .tick < serverAt d i .deadline .tick
-    live-ahead i known =
-        subst⁻¹ (λ (d : Dispatcher). idle (serverAt d i) ≡ false → d .clock .tick < serverAt d i .deadline .tick) (ok .led)
-        (demand .deadlines-ahead (ok .moves) i known)
+    bounded : (i : ℕ) → i < listed l .count → idle (serverAt d i) ≡ true → (b : Moment) (further : List Move)
+        → got i b d further * listed l .booking i .period .ticks ≤ until (d .clock) b .ticks * listed l .booking i .budget .ticks
+    bounded i known = rw (sym (ok .led)) at (demand .bandwidth (ok .moves) i known)
 
-    -- a tick that a server got has ended by the deadline that is answered
-    pub ticked-in-time : (r : Ticked) → tickSays r ≡ tick d → (i : ℕ) (deadline : Moment) (postponed : Bool)
-        → r .answer ≡ Ran i deadline postponed → r .dispatcher .clock .tick ≤ deadline .tick
-    ticked-in-time r e i deadline postponed answer =
-        let in-time
-        = subst⁻¹
-        (λ (d : Dispatcher). tick d .answer ≡ gave (ranOne i deadline postponed) → tick d .dispatcher .clock .tick ≤ deadline .tick)
-        (ok .led)
-        (demand .ticks-in-time (ok .moves) i deadline postponed) in
-        rw (ap (λ (m : Moved Turn). m .dispatcher) e) (in-time (sym (ap (λ (m : Moved Turn). m .answer) e) ∙ ap turnOf answer))
+    in-time : (i : ℕ) (deadline : Moment) (postponed : Bool) → tick d .answer ≡ gave (ranOne i deadline postponed)
+        → tick d .dispatcher .clock .tick ≤ deadline .tick
+    in-time i deadline postponed = rw (sym (ok .led)) at (demand .ticks-in-time (ok .moves) i deadline postponed)
 
-    -- and the ticks that a server has got since it had no work waiting are bounded
-    pub live-bandwidth : {i : ℕ} {b : Moment} {e : Dispatcher} {n : ℕ} → i < listed l .count → idle (serverAt d i) ≡ true → Since d i b e n
-        → n * listed l .booking i .period .ticks ≤ until (d .clock) b .ticks * listed l .booking i .budget .ticks
-    live-bandwidth {i} {b} {e} {n} known none since =
-        let bound
-        = subst⁻¹
-        (λ (d : Dispatcher). idle (serverAt d i) ≡ true → (b : Moment) (further : List Move)
-        → got i b d further * listed l .booking i .period .ticks ≤ until (d .clock) b .ticks * listed l .booking i .budget .ticks)
-        (ok .led)
-        (demand .bandwidth (ok .moves) i known) in
-        rw (since .counted) (bound none b (since .moves))
+    pub live-demand-3 : LiveDemand3 l d
+    live-demand-3 =
+        record {
+          bandwidth = λ i known none b e n since. rw (since .counted) (bounded i known none b (since .moves));
+          deadlines-ahead = λ i known. rw (sym (ok .led)) at (demand .deadlines-ahead (ok .moves) i known);
+          ticks-in-time = λ r e i deadline postponed answer.
+              rw (ap (λ (m : Moved Turn). m .dispatcher) e)
+              (in-time i deadline postponed (sym (ap (λ (m : Moved Turn). m .answer) e) ∙ ap turnOf answer));
+        }
 
 -- How a caller counts.
 pub since-none : (d : Dispatcher) (i : ℕ) (b : Moment) → Since d i b d 0

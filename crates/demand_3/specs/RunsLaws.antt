@@ -1,13 +1,17 @@
 -- What `run` answers for an accepted file satisfies demand 3.
 use Prim.Native.Nat.{ℕ, _+_, _-_, _*_, _≤_, _<_}
-use lib.ListN.{length}
+use borrow.Author.Tests.{eq-eqb}
+use lib.ListN.{length, getD}
 use mathlib.Core.List.{List}
+use mathlib.Core.Logic.{inl}
 use mathlib.Core.Path.{_≡_, sym, _∙_, ap, subst⁻¹}
 use native.Mathlib.Nat.{le-trans, mul-le-mul-right}
 use native.Mathlib.Omega.{arith}
+use Rattle.books.specs.AllFinished.{list-finished-idle}
 use Rattle.clock.specs.Clock.{moment}
+use Rattle.dispatcher.specs.Pick.{serverAt}
 use Rattle.history.specs.Choice.{given}
-use Rattle.moments.specs.Moments.{history}
+use Rattle.moments.specs.Moments.{atMoment, history, waitingAt}
 use Rattle.refusal.specs.declared.Verdict.the-variants.{Accepted}
 use Rattle.refusal.specs.Refusals.{accepted, onPaper}
 use Rattle.run.specs.declared.Ran.{Ran}
@@ -26,8 +30,8 @@ use Rattle.workfile.specs.Judgement.{judged}
 use Rattle.workfile.specs.Work.{Work, work}
 use Rattle.demand_3.specs.CourseLaws.{under-nobody}
 use Rattle.demand_3.specs.Course.{isUnder}
-use Rattle.demand_3.specs.FileLaws.{file-demand-3}
-use Rattle.demand_3.specs.Files.{FileDemand3}
+use Rattle.demand_3.specs.FilesLaws.{file-demand-3}
+use Rattle.demand_3.specs.Files.{NoWorkAt, FileDemand3}
 use Rattle.demand_3.specs.Runs.{held, RunDemand3}
 
 -- a stretch of ticks under one deadline ends by it, since its last tick does
@@ -69,8 +73,22 @@ module _ (file list ends after endsAfter : List ℕ) (r : Ran) (said : says r af
   ran-accepted =
       sym (ap (λ (o : Outcome). o .verdict) said ∙ outcome-verdict file list ends) ∙ ap onPaper answer
 
+  whole : says r after endsAfter ≡ accepting (work file) list ends
+  whole = said ∙ outcome-accepted file list ends ran-accepted
+
   pub run-demand-3 : RunDemand3 (work file) (r .segments) after
   run-demand-3 =
-      let whole : says r after endsAfter ≡ accepting (work file) list ends = said ∙ outcome-accepted file list ends ran-accepted in
       subst⁻¹ (λ (o : Outcome). RunDemand3 (work file) (o .segments) (o .traceList)) whole
       (written-demand-3 (file-demand-3 (judged-fit file (length ends) ran-accepted)) list)
+
+  -- where the finish list tells of every job of server i that arrived before a that it had finished by then, it had no work waiting at a
+  pub run-no-work : (a i : ℕ) → a ≤ work file .horizon .tick
+      → ((k : ℕ) → k < work file .arrivals → work file .arrival k .server ≡ i → work file .arrival k .moment .tick < a
+      → getD endsAfter k 0 ≤ a)
+      → NoWorkAt (work file) a i
+  unfolding waitingAt
+  run-no-work a i within told =
+      inl
+      (eq-eqb (serverAt (atMoment (work file) a) i .waiting .ticks) 0
+      (list-finished-idle ends (judged-fit file (length ends) ran-accepted) a i within
+      (λ k listed own early. rw (ap (λ (o : Outcome). o .finishList) whole) at (told k listed own early))))

@@ -33,7 +33,7 @@ use Rattle.demand_3.specs.Demand3.{Demand3}
 use Rattle.demand_3.specs.Demand3Laws.{demand-3}
 use Rattle.demand_3.specs.Files.{NoWorkAt, gotFrom, FileDemand3}
 use Rattle.demand_3.specs.MovedLaws.{arrival-waiting}
-use Rattle.demand_3.specs.RunLaws.{arrivalsOf, ready-course, movesFrom, run-course, run-got}
+use Rattle.demand_3.specs.RunCourseLaws.{arrivalsOf, ready-course, movesFrom, run-course, run-got}
 
 -- the arrivals of a moment take no work away
 taken-waiting : (w : Work) (k : ℕ) {d : Dispatcher} → Within d → (i : ℕ)
