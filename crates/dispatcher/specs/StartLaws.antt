@@ -18,6 +18,7 @@ use Rattle.server.specs.RangeLaws.{fresh-ranged}
 use Rattle.server.specs.Ranges.{Ranged}
 use Rattle.server.specs.Server.{blank, fresh}
 use Rattle.sizes.specs.Sizes.{mostFrame, mostServers}
+use Rattle.dispatcher.specs.Pick.{serverAt}
 use Rattle.dispatcher.specs.Start.{startAt, atStart}
 use Rattle.dispatcher.specs.Within.{Within}
 
@@ -43,11 +44,16 @@ module _ (booking : ℕ → Booking) where
       elsewhere i q (yes b) = rw (lt-ltb i k b, lt-ltb i (suc k) (omega arith))
       elsewhere i q (no b) = rw (le-ltb i k (omega arith), le-ltb i (suc k) (omega arith))
 
+-- each place of it, and each of its servers, which is fresh
+start-at : (t : Table) (k : ℕ) → k < mostServers → getD (places mostServers (startAt t)) k blank ≡ startAt t k
+start-at t k h = getD-places mostServers (startAt t) k blank h
+
+pub start-server : (H : Length) (t : Table) → t .count ≤ mostServers → (k : ℕ) → k < t .count → serverAt (atStart H t) k ≡ fresh (t .booking k)
+unfolding atStart
+start-server H t few k h = start-at t k (omega arith) ∙ rw (lt-ltb k (t .count) h)
+
 module _ (H : Length) (t : Table) (from : 1 ≤ H .ticks) (to : H .ticks ≤ mostFrame) (few : t .count ≤ mostServers)
     (good : (k : ℕ) → k < t .count → Ranged (moment 0) (fresh (t .booking k))) where
-  at : (k : ℕ) → k < mostServers → getD (places mostServers (startAt t)) k blank ≡ startAt t k
-  at k h = getD-places mostServers (startAt t) k blank h
-
   pub start-within : Within (atStart H t)
   unfolding atStart
   start-within =
@@ -63,10 +69,10 @@ module _ (H : Length) (t : Table) (from : 1 ≤ H .ticks) (to : H .ticks ≤ mos
     where
       ranged : (k : ℕ) → k < t .count → Ranged (moment 0) (getD (places mostServers (startAt t)) k blank)
       ranged k h =
-          rw (at k (omega arith), lt-ltb _ _ h) (good k h)
+          rw (start-at t k (omega arith), lt-ltb _ _ h) (good k h)
 
       behind : (k : ℕ) → t .count ≤ k → Dec (k < mostServers) → getD (places mostServers (startAt t)) k blank ≡ blank
-      behind k h (yes b) = rw (at k b, le-ltb _ _ h)
+      behind k h (yes b) = rw (start-at t k b, le-ltb _ _ h)
       behind k h (no b) =
           List·getD-eq-default (places mostServers (startAt t)) blank (omega (arith, length-places mostServers (startAt t)))
 

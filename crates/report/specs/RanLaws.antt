@@ -2,34 +2,27 @@
 use Prim.Native.Nat.{ℕ}
 use lib.ListN.{length}
 use mathlib.Core.List.{List}
-use mathlib.Core.Path.{_≡_, refl, sym, _∙_, ap}
+use mathlib.Core.Path.{_≡_, sym, _∙_, ap}
 use Rattle.books.specs.Accepted.{judged-accepted}
 use Rattle.refusal.specs.declared.Refusal.{Refusal}
 use Rattle.refusal.specs.declared.Verdict.the-variants.{Accepted, Refused}
-use Rattle.refusal.specs.Refusals.{Said, refused, gave, accepted, numberOf, onPaper, placeOf}
+use Rattle.refusal.specs.Refusals.{Said, accepted, numberOf, onPaper, placeOf}
 use Rattle.run.specs.declared.Ran.{Ran}
-use Rattle.run.specs.Outcome.{Outcome, outcome, outcomeOf, accepting, says}
-use Rattle.run.specs.OutcomeLaws.{outcome-accepted}
+use Rattle.run.specs.Outcome.{Outcome, outcome, accepting, says}
+use Rattle.run.specs.OutcomeLaws.{outcome-verdict, ran-accepting}
 use Rattle.sizes.specs.Sizes.{mostArrivals, traceNumbers}
 use Rattle.workfile.specs.Judgement.{judged}
-use Rattle.workfile.specs.Work.{Work, work}
+use Rattle.workfile.specs.Work.{work}
 use Rattle.report.specs.DayReport.{refusedLine, acceptedReport, reportOf, dayReport}
 use Rattle.report.specs.Told.{Told, traceOf}
-
-verdict-of : (s : Said (Unit {0})) (w : Work) (list ends : List ℕ) → outcomeOf s w list ends .verdict ≡ s
-verdict-of (refused n place) w list ends = refl
-verdict-of (gave u) w list ends = refl
 
 -- Of a run beside lists as long as the report lends them.
 module _ (file list ends after ended : List ℕ) (r : Ran) (long : length list ≡ traceNumbers) (places : length ends ≡ mostArrivals)
     (ran : says r after ended ≡ outcome file list ends) where
   -- its verdict is the file's
   verdict-is : judged file mostArrivals ≡ onPaper (r .verdict)
-  unfolding outcome
   verdict-is =
-      ap (judged file) (sym places)
-      ∙ sym (verdict-of (judged file (length ends)) (work file) list ends)
-      ∙ sym (ap (λ (o : Outcome). o .verdict) ran)
+      ap (judged file) (sym places) ∙ sym (outcome-verdict file list ends) ∙ sym (ap (λ (o : Outcome). o .verdict) ran)
 
   pub report-refused : (why : Refusal) → r .verdict ≡ Refused why → dayReport file ≡ refusedLine (numberOf why) (placeOf why)
   unfolding dayReport
@@ -44,7 +37,7 @@ module _ (file list ends after ended : List ℕ) (r : Ran) (long : length list �
     report-accepted = ap (λ (s : Said (Unit {0})). reportOf s (work file)) fine
 
     gives : says r after ended ≡ accepting (work file) list ends
-    gives = ran ∙ outcome-accepted file list ends (ap (judged file) places ∙ fine)
+    gives = ran-accepting file list ends after ended r ran v
 
     pub ran-told : Told file after ended (r .segments) (r .summaries)
     ran-told =

@@ -1,5 +1,5 @@
 -- The report of an accepted file, line by line: what is added from a run's lists and records is the report.
-use Prim.Native.Nat.{ℕ, zero, suc, _/_, min}
+use Prim.Native.Nat.{ℕ, zero, suc, min}
 use lib.ListN.{length, take, getD, length-take}
 use mathlib.Core.List.{List, [], _∷_}
 use mathlib.Core.Path.{_≡_, refl, _∙_, ap, ap₂}
@@ -14,7 +14,7 @@ use Rattle.text.specs.Line.{each}
 use Rattle.text.specs.Page.{Page, added}
 use Rattle.text.specs.PageLaws.{added-as, added-then}
 use Rattle.trace.specs.declared.Segment.{Segment}
-use Rattle.trace.specs.Written.{segmentIn}
+use Rattle.trace.specs.Written.{fitting, segmentIn}
 use Rattle.trace.specs.WrittenLaws.{written-length}
 use Rattle.workfile.specs.Work.{Work, work}
 use Rattle.report.specs.DayReport.{admittedLine, segmentLine, segmentLines, segmentsLine, jobLine, serverLine, acceptedReport}
@@ -32,7 +32,7 @@ module _ {file list ends : List ℕ} {segments : ℕ} {records : List Summary} (
   w = work file
 
   -- as many segments as the list holds, or all
-  shown-is : (shown : ℕ) → shown ≡ min segments (length list / 4) → shown ≡ length (take mostShown (traceOf w))
+  shown-is : (shown : ℕ) → shown ≡ fitting segments list → shown ≡ length (take mostShown (traceOf w))
   shown-is shown e =
       omega (
         arith,
@@ -49,7 +49,7 @@ module _ {file list ends : List ℕ} {segments : ℕ} {records : List Summary} (
   unfolding finishList
   ends-long = ap length (told .ends-is) ∙ length-places _ _ ∙ told .ends-long
 
-  segments-shown : (shown : ℕ) → shown ≡ min segments (length list / 4)
+  segments-shown : (shown : ℕ) → shown ≡ fitting segments list
       → each shown (λ k. segmentLine (segmentIn list k)) ≡ segmentLines (take mostShown (traceOf w))
   segments-shown shown e =
       ap (λ (l : List ℕ). each shown (λ k. segmentLine (segmentIn l k))) (told .list-is)
@@ -70,7 +70,7 @@ module _ {file list ends : List ℕ} {segments : ℕ} {records : List Summary} (
       ∙ servers-told w (told .accepted .fit .servers)
 
   -- the parts one behind the other
-  pub report-told : (shown : ℕ) (p q₁ q₂ q₃ q₄ q₅ : Page) → shown ≡ min segments (length list / 4)
+  pub report-told : (shown : ℕ) (p q₁ q₂ q₃ q₄ q₅ : Page) → shown ≡ fitting segments list
       → q₁ ≡ added (admittedLine (shares (w .frame) (w .table)) (w .frame .ticks)) p
       → q₂ ≡ added (each shown (λ k. segmentLine (segmentIn list k))) q₁
       → q₃ ≡ added (segmentsLine segments shown) q₂

@@ -1,16 +1,14 @@
 -- What the lists of a run tell is what the run defines.
 use Prim.Native.Nat.{ℕ, zero, suc, _*_, _≤_, _<_}
 use borrow.Author.Tests.{eq-eqb, ne-eqb, le-leb, lt-leb, lt-ltb}
-use lib.Dec.{ltb}
 use lib.ListN.{length, take, getD}
 use lib.Seq.{take-suc}
-use mathlib.Core.Bool.{cond}
 use mathlib.Core.List.{List, [], _∷_, _++_, append-nil, append-assoc}
 use mathlib.Core.Path.{_≡_, refl, sym, _∙_, ap, ap₂}
 use native.Mathlib.Decide.{decLt}
 use native.Mathlib.Omega.{arith}
 use Rattle.counting.specs.Places.{getD-places}
-use Rattle.finish.specs.Finish.{Finish, isOpen, at, shown, servedBy, firstServed, finishList}
+use Rattle.finish.specs.Finish.{isOpen, at, shown, servedBy, firstServed, finishList}
 use Rattle.finish.specs.ListLaws.{list-shows}
 use Rattle.history.specs.Choice.{History}
 use Rattle.moments.specs.Moments.{history}

@@ -2,12 +2,14 @@
 use Prim.Native.Nat.{ℕ}
 use lib.ListN.{length}
 use mathlib.Core.List.{List}
-use mathlib.Core.Path.{_≡_, refl, _∙_, ap, ap₂}
-use Rattle.refusal.specs.Refusals.{Said, refused, gave, accepted}
+use mathlib.Core.Path.{_≡_, refl, sym, _∙_, ap, ap₂}
+use Rattle.refusal.specs.declared.Verdict.the-variants.{Accepted}
+use Rattle.refusal.specs.Refusals.{Said, refused, gave, accepted, onPaper}
 use Rattle.summary.specs.declared.Summary.{Summary}
 use Rattle.workfile.specs.Judgement.{judged}
 use Rattle.workfile.specs.Work.{work}
-use Rattle.run.specs.Outcome.{Outcome, accepting, refusing, outcomeOf, outcome}
+use Rattle.run.specs.declared.Ran.{Ran}
+use Rattle.run.specs.Outcome.{Outcome, accepting, refusing, outcomeOf, outcome, says}
 
 -- equal parts make equal outcomes
 pub made : (v : Said (Unit {0})) {n m : ℕ} {s r : List Summary} {l k : List ℕ} {e f : List ℕ} → n ≡ m → s ≡ r → l ≡ k → e ≡ f
@@ -35,3 +37,11 @@ module _ (file list ends : List ℕ) where
       go : (s : Said (Unit {0})) → outcomeOf s (work file) list ends .verdict ≡ s
       go (refused number place) = refl
       go (gave u) = refl
+
+  -- Of a call that answers `Accepted`, with the lists after it.
+  module _ (after ended : List ℕ) (r : Ran) (said : says r after ended ≡ outcome file list ends) (answer : r .verdict ≡ Accepted) where
+    pub ran-judged : judged file (length ends) ≡ accepted
+    ran-judged = sym (ap (λ (o : Outcome). o .verdict) said ∙ outcome-verdict) ∙ ap onPaper answer
+
+    pub ran-accepting : says r after ended ≡ accepting (work file) list ends
+    ran-accepting = said ∙ outcome-accepted ran-judged

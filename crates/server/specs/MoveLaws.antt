@@ -1,9 +1,10 @@
 -- The moves of one server case by case, so that no proof above has to open them.
 use Prim.Native.Nat.{_+_, _-_, _*_, _≤_, _<_}
-use borrow.Author.Tests.{leb-true, leb-false, le-leb, lt-leb, eq-eqb, ne-eqb}
+use borrow.Author.Tests.{leb-true, leb-false, le-leb, eq-eqb, ne-eqb}
 use lib.Dec.{eqb, leb}
-use mathlib.Core.Bool.{Bool, true, false, cond}
+use mathlib.Core.Bool.{Bool, true, false, cond, _||_}
 use mathlib.Core.Path.{_≡_, refl}
+use native.Mathlib.Omega.{arith}
 use Rattle.clock.specs.declared.Length.{Length}
 use Rattle.clock.specs.declared.Moment.{Moment}
 use Rattle.clock.specs.Clock.{until}
@@ -17,11 +18,20 @@ pub renews-passed : (s : Server) (t : Moment) → s .deadline .tick ≤ t .tick 
 unfolding renews
 renews-passed s t h = rw (le-leb _ _ h, or-true)
 
--- ahead of t, the one test left is "c × T is at least (d − t) × Q"
-pub renews-ahead : (s : Server) (t : Moment) → t .tick < s .deadline .tick
+-- that is told by the one test "c × T is at least (d − t) × Q", since nothing lies between t and a deadline that has passed
+pub renews-is : (s : Server) (t : Moment)
     → renews s t ≡ leb (until t (s .deadline) .ticks * s .budget .ticks) (s .remaining .ticks * s .period .ticks)
 unfolding renews
-renews-ahead s t h = rw (lt-leb _ _ h, or-false)
+renews-is s t = go (leb (s .deadline .tick) (t .tick)) refl
+  where
+    enough : Bool
+    enough = leb (until t (s .deadline) .ticks * s .budget .ticks) (s .remaining .ticks * s .period .ticks)
+
+    go : (b : Bool) → leb (s .deadline .tick) (t .tick) ≡ b → enough || b ≡ enough
+    go true e =
+        let none : s .deadline .tick - t .tick ≡ 0 = omega (arith, leb-true (s .deadline .tick) (t .tick) e) in
+        rw (le-leb (until t (s .deadline) .ticks * s .budget .ticks) (s .remaining .ticks * s .period .ticks) (rw none (omega arith)))
+    go false e = or-false enough
 
 -- a server that keeps has its deadline ahead
 pub keeps-ahead : (s : Server) (t : Moment) → renews s t ≡ false → t .tick < s .deadline .tick

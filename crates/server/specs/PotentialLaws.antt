@@ -1,52 +1,34 @@
 -- No move of one server raises its potential, and a tick that it gets lowers it by the frame: the facts of one server behind demand 3.
 -- The clock is a parameter throughout, and a server that rests is idle or held back with its budget at 0.
-use Prim.Native.Nat.{ℕ, _+_, _-_, _*_, _/_, _≤_, _<_}
-use borrow.Author.Tests.{eqb-true, eqb-false, leb-true, leb-false, le-leb, lt-leb, le-ltb}
-use lib.Dec.{eqb, leb}
-use mathlib.Core.Bool.{Bool, true, false, cond, _||_}
-use mathlib.Core.Logic.{_⊎_, inl, inr}
-use mathlib.Core.Path.{_≡_, refl, sym, ap}
+use Prim.Native.Nat.{ℕ, _+_, _-_, _*_, _≤_, _<_}
+use borrow.Author.Tests.{eq-eqb, eqb-true, leb-true, leb-false, le-leb, lt-leb}
+use mathlib.Core.Bool.{Bool, true, false, cond}
+use mathlib.Core.Logic.{inl, inr, ⊎-elim}
+use mathlib.Core.Path.{_≡_, refl, sym, _∙_, ap}
 use native.Mathlib.Decide.{decLt}
-use native.Mathlib.Nat.{le-of-mul-le-mul-right, le-trans, mul-le-mul-left, mul-le-mul-right}
+use native.Mathlib.Nat.{le-of-mul-le-mul-right, le-trans, mul-le-mul-right}
 use native.Mathlib.Omega.{arith}
 use Rattle.booking.specs.ShareLaws.{Sound, share-exact}
 use Rattle.clock.specs.declared.Length.{Length}
 use Rattle.clock.specs.declared.Moment.{Moment}
-use Rattle.clock.specs.Clock.{later, moment, ticks, until}
-use Rattle.counting.specs.Tests.{not-both}
+use Rattle.clock.specs.Clock.{ticks, until}
 use Rattle.server.specs.declared.Server.{Server}
-use Rattle.server.specs.MoveLaws.{keeps-ahead}
+use Rattle.server.specs.MoveLaws.{keeps-ahead, renews-is}
 use Rattle.server.specs.Moves.{renews, renewed, withWork, arrived, oneTickLess, postponed, spent, served}
-use Rattle.server.specs.Potential.{shareOf, owed, potential}
+use Rattle.server.specs.Potential.{Rests, HasBudgetOrRests, ownShare, owed, potential}
+use Rattle.server.specs.Ranges.{Ranged}
 use Rattle.server.specs.Server.{bookingOf, idle}
 
 -- A server that renews has c × T of at least (d − t) × Q; one that keeps has less.
 module _ (s : Server) (t : Moment) where
-  pub renews-full : renews s t ≡ true → until t (s .deadline) .ticks * s .budget .ticks ≤ s .remaining .ticks * s .period .ticks
-  unfolding renews
-  renews-full e = go (leb (until t (s .deadline) .ticks * s .budget .ticks) (s .remaining .ticks * s .period .ticks)) refl e
-    where
-      go : (b : Bool) → leb (until t (s .deadline) .ticks * s .budget .ticks) (s .remaining .ticks * s .period .ticks) ≡ b
-          → b || leb (s .deadline .tick) (t .tick) ≡ true
-          → until t (s .deadline) .ticks * s .budget .ticks ≤ s .remaining .ticks * s .period .ticks
-      go true q e = leb-true _ _ q
-      go false q e =
-          let none : s .deadline .tick - t .tick ≡ 0 = omega (arith, leb-true (s .deadline .tick) (t .tick) e) in
-          rw none (omega arith)
+  renews-full : renews s t ≡ true → until t (s .deadline) .ticks * s .budget .ticks ≤ s .remaining .ticks * s .period .ticks
+  renews-full e = leb-true _ _ (sym (renews-is s t) ∙ e)
 
   full-renews : until t (s .deadline) .ticks * s .budget .ticks ≤ s .remaining .ticks * s .period .ticks → renews s t ≡ true
-  unfolding renews
-  full-renews h = rw (le-leb _ _ h)
+  full-renews h = renews-is s t ∙ le-leb _ _ h
 
   pub keeps-less : renews s t ≡ false → s .remaining .ticks * s .period .ticks < until t (s .deadline) .ticks * s .budget .ticks
-  unfolding renews
-  keeps-less e = go (leb (until t (s .deadline) .ticks * s .budget .ticks) (s .remaining .ticks * s .period .ticks)) refl e
-    where
-      go : (b : Bool) → leb (until t (s .deadline) .ticks * s .budget .ticks) (s .remaining .ticks * s .period .ticks) ≡ b
-          → b || leb (s .deadline .tick) (t .tick) ≡ false
-          → s .remaining .ticks * s .period .ticks < until t (s .deadline) .ticks * s .budget .ticks
-      go true q e = not-both refl e
-      go false q e = leb-false _ _ q
+  keeps-less e = leb-false _ _ (sym (renews-is s t) ∙ e)
 
 -- a server that would be renewed at one moment would be at every later one
 renews-later : (s : Server) (t u : Moment) → t .tick ≤ u .tick → renews s t ≡ true → renews s u ≡ true
@@ -54,13 +36,13 @@ renews-later s t u h e =
     let nearer : s .deadline .tick - u .tick ≤ s .deadline .tick - t .tick = omega arith in
     full-renews s u (le-trans (mul-le-mul-right (s .budget .ticks) nearer) (renews-full s t e))
 
--- A server rests that is idle, or that is held back with its budget at 0 until its deadline, which is ahead.
-abbrev pub Rests : Moment → Server → Type 0
-Rests t s = (idle s ≡ true) ⊎ ((s .remaining .ticks ≡ 0) × (t .tick < s .deadline .tick))
+-- within the ranges no server is held back yet: one without budget is idle
+pub ranged-rests : {t : Moment} {s : Server} → Ranged t s → HasBudgetOrRests t s
+ranged-rests r = ⊎-elim inl (λ none. inr (inl (eq-eqb _ _ (none .2)))) (r .charged)
 
 module _ (H : Length) where
   pub owed-reached : (b : Moment) (s : Server) → s .deadline .tick ≤ b .tick
-      → owed H b s ≡ H .ticks * s .remaining .ticks + until (s .deadline) b .ticks * shareOf H s
+      → owed H b s ≡ H .ticks * s .remaining .ticks + until (s .deadline) b .ticks * ownShare H s
   unfolding owed
   owed-reached b s h = rw (le-leb _ _ h)
 
@@ -74,7 +56,7 @@ module _ (H : Length) where
     pub small : s .remaining .ticks ≤ s .budget .ticks
 
   module _ {s : Server} (ok : Booked s) where
-    pub arrived-booked : (t : Moment) (cost : Length) → Booked (arrived s t cost)
+    arrived-booked : (t : Moment) (cost : Length) → Booked (arrived s t cost)
     unfolding arrived
     arrived-booked t cost = go (idle s) (renews s t)
       where
@@ -83,7 +65,7 @@ module _ (H : Length) where
         go true false = record { sound = ok .sound; small = ok .small }
         go false k = record { sound = ok .sound; small = ok .small }
 
-    pub served-booked : Booked (served s)
+    served-booked : Booked (served s)
     unfolding served
     served-booked = go (spent (oneTickLess s))
       where
@@ -92,7 +74,7 @@ module _ (H : Length) where
         go false = record { sound = ok .sound; small = omega (arith, ok .small) }
 
   module _ {s : Server} (ok : Booked s) where
-    exact : shareOf H s * s .period .ticks ≡ s .budget .ticks * H .ticks
+    exact : ownShare H s * s .period .ticks ≡ s .budget .ticks * H .ticks
     exact = share-exact H (bookingOf s) (ok .sound)
 
     some : 1 ≤ s .period .ticks
@@ -100,14 +82,14 @@ module _ (H : Length) where
 
     -- c × T against (d − t) × Q is c × H against (d − t) × share
     full-share : (ahead : ℕ) → ahead * s .budget .ticks ≤ s .remaining .ticks * s .period .ticks
-        → ahead * shareOf H s ≤ H .ticks * s .remaining .ticks
+        → ahead * ownShare H s ≤ H .ticks * s .remaining .ticks
     full-share ahead h =
         le-of-mul-le-mul-right {k = s .period .ticks}
         (omega (arith, ap (λ (x : ℕ). ahead * x) exact, mul-le-mul-right (H .ticks) h))
         some
 
     less-share : (ahead : ℕ) → s .remaining .ticks * s .period .ticks ≤ ahead * s .budget .ticks
-        → H .ticks * s .remaining .ticks ≤ ahead * shareOf H s
+        → H .ticks * s .remaining .ticks ≤ ahead * ownShare H s
     less-share ahead h =
         le-of-mul-le-mul-right {k = s .period .ticks}
         (omega (arith, ap (λ (x : ℕ). ahead * x) exact, mul-le-mul-right (H .ticks) h))
@@ -115,15 +97,15 @@ module _ (H : Length) where
 
     module _ (t b : Moment) where
       -- a server that is renewed at t is owed its share from t on, or nothing
-      renewed-owed : owed H b (renewed s t) ≤ until t b .ticks * shareOf H s
+      renewed-owed : owed H b (renewed s t) ≤ until t b .ticks * ownShare H s
       renewed-owed = go (decLt (b .tick) (t .tick + s .period .ticks))
         where
-          go : Dec (b .tick < t .tick + s .period .ticks) → owed H b (renewed s t) ≤ until t b .ticks * shareOf H s
+          go : Dec (b .tick < t .tick + s .period .ticks) → owed H b (renewed s t) ≤ until t b .ticks * ownShare H s
           go (yes h) = rw (owed-beyond b (renewed s t) h) (omega arith)
           go (no h) =
               let parts : b .tick - t .tick ≡ s .period .ticks + (b .tick - (t .tick + s .period .ticks)) = omega arith in
               rw (owed-reached b (renewed s t) (omega arith))
-              (omega (arith, exact, ap (λ (x : ℕ). x * shareOf H s) parts))
+              (omega (arith, exact, ap (λ (x : ℕ). x * ownShare H s) parts))
 
       -- a server is renewed no sooner than T before its deadline
       renews-near : renews s t ≡ true → s .deadline .tick ≤ t .tick + s .period .ticks
@@ -146,7 +128,7 @@ module _ (H : Length) where
               (omega (
                 arith,
                 renewed-owed,
-                mul-le-mul-right (shareOf H s) split,
+                mul-le-mul-right (ownShare H s) split,
                 full-share (until t (s .deadline) .ticks) (renews-full s t e),
               ))
 
@@ -182,7 +164,7 @@ module _ (H : Length) where
     potential-arrived cost = refl
 
   -- it is never more than what is owed
-  pub potential-owed : {s : Server} → Booked s → (t b : Moment) → potential H t b s ≤ owed H b s
+  potential-owed : {s : Server} → Booked s → (t b : Moment) → potential H t b s ≤ owed H b s
   unfolding potential
   potential-owed ok t b = arrived-no-more ok t b (ticks 0)
 
@@ -200,7 +182,7 @@ module _ (H : Length) where
       go (no q) =
           let nearer : b .tick - (u .tick + s .period .ticks) ≤ b .tick - (t .tick + s .period .ticks) = omega arith in
           rw (owed-reached b (renewed s u) (omega arith), owed-reached b (renewed s t) (omega arith))
-          (omega (arith, mul-le-mul-right (shareOf H s) nearer))
+          (omega (arith, mul-le-mul-right (ownShare H s) nearer))
 
   pub later-potential : {s : Server} → Booked s → (t u b : Moment) → t .tick ≤ u .tick → potential H u b s ≤ potential H t b s
   later-potential {s} ok t u b h = go (idle s) refl (renews s t) refl
@@ -211,8 +193,9 @@ module _ (H : Length) where
       go true i false k = rw (potential-kept s t b i k) (potential-owed ok u b)
       go false i k e = rw (potential-busy s t b i, potential-busy s u b i) (omega arith)
 
-  -- A tick that a server gets under a deadline no later than b lowers it by the frame,
+  -- A tick that a server gets.
   module _ {s : Server} (ok : Booked s) (b : Moment) where
+    -- under a deadline no later than b it lowers what is owed by the frame
     served-owed : 1 ≤ s .remaining .ticks → s .deadline .tick ≤ b .tick → owed H b (served s) + H .ticks ≤ owed H b s
     unfolding served
     served-owed left h = go (spent (oneTickLess s)) refl
@@ -224,7 +207,7 @@ module _ (H : Length) where
         last one (no q) =
             let parts : b .tick - s .deadline .tick ≡ s .period .ticks + (b .tick - (s .deadline .tick + s .period .ticks)) = omega arith in
             rw (owed-reached b (postponed (oneTickLess s)) (omega arith), owed-reached b s h, one)
-            (omega (arith, exact ok, ap (λ (x : ℕ). x * shareOf H s) parts))
+            (omega (arith, exact ok, ap (λ (x : ℕ). x * ownShare H s) parts))
 
         go : (e : Bool) → spent (oneTickLess s) ≡ e
             → owed H b (cond e (postponed (oneTickLess s)) (oneTickLess s)) + H .ticks ≤ owed H b s
@@ -233,12 +216,12 @@ module _ (H : Length) where
             let one : s .remaining .ticks ≡ 1 + (s .remaining .ticks - 1) = omega arith in
             rw (owed-reached b (oneTickLess s) h, owed-reached b s h) (omega (arith, ap (λ (x : ℕ). H .ticks * x) one))
 
+    -- and so the potential, whatever time has passed
     pub served-potential : (t u : Moment) → idle s ≡ false → 1 ≤ s .remaining .ticks → s .deadline .tick ≤ b .tick
         → potential H u b (served s) + H .ticks ≤ potential H t b s
     served-potential t u busy left h =
         rw (potential-busy s t b busy) (omega (arith, potential-owed (served-booked ok) u b, served-owed left h))
 
-    -- and one under a later deadline leaves nothing to get up to b.
     served-deadline : s .deadline .tick ≤ served s .deadline .tick
     unfolding served
     served-deadline = go (spent (oneTickLess s))
@@ -247,28 +230,29 @@ module _ (H : Length) where
         go true = omega arith
         go false = omega arith
 
+    -- under a later deadline it leaves nothing to get up to b
     pub served-beyond : (u : Moment) → b .tick < s .deadline .tick → potential H u b (served s) ≡ 0
     served-beyond u h =
         omega (arith, potential-owed (served-booked ok) u b, owed-beyond b (served s) (omega (arith, served-deadline)))
 
   -- A server that rests can get no more than its share from t on.
   module _ {s : Server} (ok : Booked s) (t b : Moment) where
-    owed-ahead : H .ticks * s .remaining .ticks ≤ until t (s .deadline) .ticks * shareOf H s → t .tick < s .deadline .tick
-        → owed H b s ≤ until t b .ticks * shareOf H s
+    owed-ahead : H .ticks * s .remaining .ticks ≤ until t (s .deadline) .ticks * ownShare H s → t .tick < s .deadline .tick
+        → owed H b s ≤ until t b .ticks * ownShare H s
     owed-ahead less ahead = go (decLt (b .tick) (s .deadline .tick))
       where
-        go : Dec (b .tick < s .deadline .tick) → owed H b s ≤ until t b .ticks * shareOf H s
+        go : Dec (b .tick < s .deadline .tick) → owed H b s ≤ until t b .ticks * ownShare H s
         go (yes q) = rw (owed-beyond b s q) (omega arith)
         go (no q) =
             let split : b .tick - t .tick ≡ (b .tick - s .deadline .tick) + (s .deadline .tick - t .tick) = omega arith in
-            rw (owed-reached b s (omega arith)) (omega (arith, less, ap (λ (x : ℕ). x * shareOf H s) split))
+            rw (owed-reached b s (omega arith)) (omega (arith, less, ap (λ (x : ℕ). x * ownShare H s) split))
 
-    pub rests-potential : Rests t s → potential H t b s ≤ until t b .ticks * shareOf H s
+    pub rests-potential : Rests t s → potential H t b s ≤ until t b .ticks * ownShare H s
     rests-potential (inr held) =
         le-trans (potential-owed ok t b) (owed-ahead (rw (held .0) (omega arith)) (held .1))
     rests-potential (inl i) = go (renews s t) refl
       where
-        go : (k : Bool) → renews s t ≡ k → potential H t b s ≤ until t b .ticks * shareOf H s
+        go : (k : Bool) → renews s t ≡ k → potential H t b s ≤ until t b .ticks * ownShare H s
         go true k = rw (potential-renewed s t b i k) (renewed-owed ok t b)
         go false k =
             rw (potential-kept s t b i k)

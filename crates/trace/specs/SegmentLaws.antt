@@ -32,6 +32,11 @@ every-take P zero l x = tt
 every-take P (suc n) [] x = tt
 every-take P (suc n) (s ∷ l) x = (x .0, every-take P n l (x .1))
 
+-- what follows for each of them
+pub every-map : {P Q : Segment → Type 0} → ((s : Segment) → P s → Q s) → (l : List Segment) → Every P l → Every Q l
+every-map f [] x = tt
+every-map f (s ∷ l) x = (f s (x .0), every-map f l (x .1))
+
 -- the one at place k of it
 pub every-at : (P : Segment → Type 0) (l : List Segment) (d : Segment) → Every P l → (k : ℕ) → k < length l → P (getD l k d)
 every-at P [] d x k h = absurd (not-suc-le-zero h)
@@ -91,13 +96,13 @@ module _ (h : History) (N : ℕ) where
       go true = has t (lasting h N t) (lasting-some t le) (lasting-ends t le) (lasting-all t le)
       go false = tt
 
--- What a segment is: some ticks before the horizon, all given to its server under its deadline.
+-- What a segment of a trace has: some ticks before the horizon, all given to its server under its deadline.
 pub record Stretch (h : History) (N : ℕ) (s : Segment) : Type 0 where
   pub some : 1 ≤ s .length .ticks
   pub ends : s .start .tick + s .length .ticks ≤ N
   pub all : (q : ℕ) → q < s .length .ticks → h (s .start .tick + q) ≡ given (s .server) (s .deadline)
 
--- every segment of a trace is one
+-- every one of them has it
 pub trace-stretches : (h : History) (N : ℕ) → Every (Stretch h N) (trace h N)
 trace-stretches h N = begun-every h N (Stretch h N) (λ b k some ends all. go b k some ends (h b) all) N (omega arith)
   where

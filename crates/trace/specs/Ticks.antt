@@ -15,7 +15,7 @@ endOf s = later (s .start) (s .length)
 abbrev pub ticksFrom : Moment → Segment → ℕ
 ticksFrom a s = min (s .length .ticks) (until a (endOf s) .ticks)
 
--- as many, where its server and deadline pass a test
+-- as many where its server and deadline pass a test, else none
 abbrev pub ticksOf : (Choice → Bool) → Moment → Segment → ℕ
 ticksOf p a s = cond (p (given (s .server) (s .deadline))) (ticksFrom a s) 0
 

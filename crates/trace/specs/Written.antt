@@ -1,6 +1,6 @@
 -- The lent trace list (document 01): "Four 64-bit numbers: start, length, server, deadline"; it "holds the first of them, as many
 -- whole segments as fit; every later place is untouched."
-use Prim.Native.Nat.{ℕ, _+_, _-_, _*_}
+use Prim.Native.Nat.{ℕ, _+_, _-_, _*_, _/_, min}
 use lib.Dec.{leb, ltb}
 use lib.ListN.{length, getD}
 use mathlib.Core.Bool.{cond, _&&_}
@@ -21,6 +21,10 @@ written (s ∷ more) [] = []
 written (s ∷ more) (a ∷ []) = a ∷ []
 written (s ∷ more) (a ∷ b ∷ []) = a ∷ b ∷ []
 written (s ∷ more) (a ∷ b ∷ c ∷ []) = a ∷ b ∷ c ∷ []
+
+-- how many of so many segments a list holds: "as many whole segments as fit"
+abbrev pub fitting : ℕ → List ℕ → ℕ
+fitting segments list = min segments (length list / 4)
 
 -- the segment in places 4 × k on of a trace list
 abbrev pub segmentIn : List ℕ → ℕ → Segment

@@ -3,7 +3,7 @@
 use borrow.Author.Needs.{needs}
 use mathlib.Core.Path.{sym}
 use native.Mathlib.Omega.{arith}
-use Rattle.server.specs.MoveLaws.{renews-passed, renews-ahead}
+use Rattle.server.specs.MoveLaws.{renews-passed, renews-is}
 use Rattle.server.specs.RangeLaws.{ahead-fits, remaining-fits}
 use Rattle.dispatcher.proofs.taking.is_renewed.Statement.{statement}
 use Rattle.dispatcher.proofs.taking.is_renewed.Tie as tie
@@ -26,7 +26,7 @@ mul-result-2 c =
 
 returns-2 : tie.Need-returns-2
 returns-2 c =
-    rw (c .before .before .before .until .ensures) (sym (renews-ahead _ _ (c .before .before .before .before .if1 .left)))
+    rw (c .before .before .before .until .ensures) (sym (renews-is _ _))
 
 pub is-renewed-spec : {M : Type 1} → statement M
 is-renewed-spec = tie.close (tie.spec returns until-requires mul-result mul-result-2 returns-2)
