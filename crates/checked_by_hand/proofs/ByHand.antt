@@ -6,6 +6,7 @@ use Rattle.counting.specs.First.{first}
 use Rattle.counting.specs.Places.{places}
 use Rattle.counting.specs.Sum.{sum}
 use Rattle.counting.specs.Totals.{longest, total}
+use Rattle.demand_3.specs.Course.{isUnder}
 use Rattle.dispatcher.specs.Moves.{arrival, ran, tick}
 use Rattle.dispatcher.specs.Pick.{mayRun, picked}
 use Rattle.dispatcher.specs.Start.{atStart}
@@ -25,5 +26,5 @@ use Rattle.workfile.specs.Work.{work}
 use Rattle.checked_by_hand.specs.ByHand.{AllHold, checkedByHand}
 
 pub all-hold : AllHold checkedByHand
-unfolding dayReport segmentLines jobLine serverLine decimal digitsUpTo each server.renews server.arrived server.served judged first sum total longest every count places arrival ran tick mayRun picked atStart firstServed servedBy workOf isFor same served atMoment history postponedBy ready taken turn waitingAt word arrivedOf finishedOf howMany interruptedOf responseIn responses responsesOf summaryOf begins begun lasting workfile.arrivalJudged workfile.arrivalsJudged workfile.workJudged workfile.judged arrivalAt bookingAt header work
-all-hold = (refl, (refl, (refl, (refl, (refl, (refl, (refl, (refl, (refl, (refl, (refl, (refl, (refl, (refl, (refl, (refl, (refl, (refl, (refl, (refl, (refl, (refl, tt))))))))))))))))))))))
+unfolding dayReport segmentLines jobLine serverLine decimal digitsUpTo each server.renews server.arrived server.served judged first sum total longest every count places arrival ran tick mayRun picked atStart firstServed servedBy workOf isFor same served atMoment history postponedBy ready taken turn waitingAt word arrivedOf finishedOf howMany interruptedOf responseIn responses responsesOf summaryOf begins begun lasting isUnder workfile.arrivalJudged workfile.arrivalsJudged workfile.workJudged workfile.judged arrivalAt bookingAt header work
+all-hold = (refl, (refl, (refl, (refl, (refl, (refl, (refl, (refl, (refl, (refl, (refl, (refl, (refl, (refl, (refl, (refl, (refl, (refl, (refl, (refl, (refl, (refl, (refl, (refl, (refl, (refl, (refl, (refl, tt))))))))))))))))))))))))))))

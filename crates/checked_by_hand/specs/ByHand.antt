@@ -6,6 +6,7 @@ use mathlib.Core.List.{List, [], _∷_, _++_}
 use mathlib.Core.Path.{_≡_}
 use Rattle.booking.specs.Admission.{shares}
 use Rattle.clock.specs.Clock.{moment, ticks}
+use Rattle.demand_3.specs.Files.{gotFrom}
 use Rattle.finish.specs.Finish.{Finish, isOpen, at}
 use Rattle.moments.specs.Moments.{history}
 use Rattle.opening.specs.Opening.{listed, judged}
@@ -35,6 +36,8 @@ pub data Example : Type 0 where
   tracing : (file : List ℕ) → (segments : List Segment) → Example
   finishing : (file : List ℕ) → (job : ℕ) → Finish → Example
   summing : (file : List ℕ) → (server : ℕ) → Summary → Example
+  -- the ticks that a server gets from moment a on under deadlines no later than b
+  getting : (file : List ℕ) → (server a b : ℕ) → (got : ℕ) → Example
   -- and its day report, whole
   reporting : (file : List ℕ) → (lines : List String) → Example
 
@@ -81,6 +84,7 @@ Holds (accepting file places) = workfile.judged (bytes file) places ≡ accepted
 Holds (tracing file segments) = trace (history (work (bytes file))) (work (bytes file) .horizon .tick) ≡ segments
 Holds (finishing file job finish) = finishes (work (bytes file)) job ≡ finish
 Holds (summing file server record′) = summaryOf (work (bytes file)) server ≡ record′
+Holds (getting file server a b got) = gotFrom (work (bytes file)) server a (moment b) ≡ got
 Holds (reporting file lines) = dayReport (bytes file) ≡ printed lines
 
 abbrev pub AllHold : List Example → Type 0
@@ -115,6 +119,14 @@ checkedByHand =
     ∷ finishing fileP 0 (at 10)
     ∷ finishing fileP 1 (at 5)
     ∷ finishing fileP 2 (at 9)
+    -- what demand 3 counts in those segments: server 0 gets 2 under deadlines up to 5, and 2 × 5 = 5 × 2 is all that it may; 4 up to 10 and
+    -- up to 14, 5 up to 15; server 1, with no work waiting at 6, gets 2 from then on
+    ∷ getting fileP 0 0 4 0
+    ∷ getting fileP 0 0 5 2
+    ∷ getting fileP 0 0 10 4
+    ∷ getting fileP 0 0 14 4
+    ∷ getting fileP 0 0 15 5
+    ∷ getting fileP 1 6 11 2
     -- and its report
     ∷ reporting fileP
     ("admitted 10 of 10"

@@ -1,14 +1,14 @@
 -- Deadlines ahead: at every moment t and for every b, what all servers together can still get under deadlines no later than b is at most the
--- ticks from t to b. Admission gives it at the start, and every move keeps it. A server with work and a deadline that has come would
--- break it.
+-- ticks from t to b, times the frame. Admission gives it at the start, and every move keeps it. A server with work and a deadline that
+-- has come would break it.
 use Prim.Native.Nat.{ℕ, _+_, _-_, _*_, _≤_, _<_}
 use borrow.Author.Tests.{eqb-false, le-leb}
-use mathlib.Core.Bool.{Bool, true, false, cond, false≢true}
+use mathlib.Core.Bool.{Bool, true, false}
 use mathlib.Core.List.{List, [], _∷_}
-use mathlib.Core.Logic.{inl}
-use mathlib.Core.Path.{_≡_, refl, sym, _∙_, ap, subst, subst⁻¹}
-use native.Mathlib.Decide.{ℕ-discrete, decLt}
-use native.Mathlib.Nat.{le-trans, mul-le-mul-left, mul-le-mul-right}
+use mathlib.Core.Logic.{inl, inr}
+use mathlib.Core.Path.{_≡_, refl, sym, _∙_, ap}
+use native.Mathlib.Decide.{decLt}
+use native.Mathlib.Nat.{le-trans, mul-le-mul-left}
 use native.Mathlib.Omega.{arith}
 use Rattle.booking.specs.Admission.{Table}
 use Rattle.booking.specs.AdmissionLaws.{Admitted}
@@ -16,30 +16,31 @@ use Rattle.booking.specs.Share.{share}
 use Rattle.clock.specs.declared.Length.{Length}
 use Rattle.clock.specs.declared.Moment.{Moment}
 use Rattle.clock.specs.Clock.{later, ticks, until}
+use Rattle.counting.specs.Tests.{not-both}
 use Rattle.counting.specs.Sum.{sum, sum-mono, sum-falls, sum-at, sum-times}
 use Rattle.dispatcher.specs.declared.Dispatcher.{Dispatcher}
-use Rattle.dispatcher.specs.Moves.{Moved, Turn, arrival, oneLater, ran, tick}
+use Rattle.dispatcher.specs.Moves.{arrival, tick}
 use Rattle.dispatcher.specs.Pick.{serverAt}
-use Rattle.dispatcher.specs.PickLaws.{Earliest, NoneWorks}
 use Rattle.history.specs.Choice.{given}
 use Rattle.history.specs.ChoiceLaws.{nobody≢given, given-deadline}
 use Rattle.moments.specs.MomentLaws.{arrival-keeps}
 use Rattle.moments.specs.Moments.{choiceOf}
 use Rattle.server.specs.declared.Server.{Server}
-use Rattle.server.specs.Potential.{shareOf, potential}
-use Rattle.server.specs.PotentialLaws.{Rests, owed-reached, owed-beyond, potential-busy, rests-potential, served-beyond}
+use Rattle.server.specs.Potential.{Rests, HasBudgetOrRests, ownShare, potential}
+use Rattle.server.specs.PotentialLaws.{owed-reached, owed-beyond, potential-busy, rests-potential, served-beyond}
 use Rattle.server.specs.RangeLaws.{busy-charged}
 use Rattle.server.specs.Server.{idle}
 use Rattle.demand_3.specs.BandwidthLaws.{canGet, arrival-pays, tick-pays}
-use Rattle.demand_3.specs.Course.{Move, anArrival, aTick, after, isUnder}
+use Rattle.demand_3.specs.Course.{Move, anArrival, aTick, after}
 use Rattle.demand_3.specs.CourseLaws.{under-own}
-use Rattle.demand_3.specs.MovedLaws.{TickCase, ended, nobodys, servers, tick-cases, ran-own, ran-other, ran-clock, ran-choice}
-use Rattle.demand_3.specs.StandingLaws.{Standing, standing-booked, arrival-standing, tick-standing}
+use Rattle.demand_3.specs.MovedLaws.{TickCase, refusedTick, idleTick, givenTick, TickServer, leaves, serves, tick-cases, tick-server}
+use Rattle.demand_3.specs.StandingLaws.{Standing, standing-booked, standing-rests, arrival-standing, tick-standing}
 
--- what all servers can still get is at most the ticks from now to b, for every b
+-- for every b the ticks from now to b cover what all servers can still get; and a server without budget rests
 pub record Covered (H : Length) (t : Table) (d : Dispatcher) : Type 0 where
   pub standing : Standing t d
   pub covers : (b : Moment) → sum (t .count) (canGet H b d) ≤ until (d .clock) b .ticks * H .ticks
+  pub rests : (i : ℕ) → i < t .count → HasBudgetOrRests (d .clock) (serverAt d i)
 
 module _ {H : Length} {t : Table} (some : 1 ≤ H .ticks) (admitted : Admitted H t) where
   -- a server's share from a moment on
@@ -66,26 +67,32 @@ module _ {H : Length} {t : Table} (some : 1 ≤ H .ticks) (admitted : Admitted H
       record {
         standing = ok;
         covers = λ b. shares-cover (d .clock) b (canGet H b d) (λ i known. rests-share ok (d .clock) b i known (rests i known));
+        rests = standing-rests ok;
       }
 
-  -- An arrival keeps it.
-  pub arrival-covered : {d : Dispatcher} → Covered H t d → (j : ℕ) (cost : Length) → Covered H t (arrival d j cost .dispatcher)
+  -- an arrival keeps it
+  arrival-covered : {d : Dispatcher} → Covered H t d → (j : ℕ) (cost : Length) → Covered H t (arrival d j cost .dispatcher)
   arrival-covered {d} ok j cost =
+      let standing : Standing t (arrival d j cost .dispatcher) = arrival-standing (ok .standing) j cost in
       record {
-        standing = arrival-standing (ok .standing) j cost;
+        standing = standing;
         covers = λ b.
             le-trans (sum-mono (t .count) (canGet H b (arrival d j cost .dispatcher)) (canGet H b d)
             (λ i known. arrival-pays admitted b (ok .standing) j cost i known))
             (rw (arrival-keeps d j cost .0) (ok .covers b));
+        rests = standing-rests standing;
       }
 
-  -- A tick keeps it: given under a deadline no later than b it is paid for,
+  -- A tick keeps it.
   module _ {d : Dispatcher} (ok : Covered H t d) (b : Moment) where
     abbrev next : Dispatcher
     next = tick d .dispatcher
 
-    -- all but the tick that has passed
-    one-less : (now : ℕ) (all : ℕ) → all + H .ticks ≤ (b .tick - now) * H .ticks → all ≤ (b .tick - (now + 1)) * H .ticks
+    abbrev CoversNext : Type 0
+    CoversNext = sum (t .count) (canGet H b next) ≤ until (next .clock) b .ticks * H .ticks
+
+    -- what has fallen by the frame is covered by one tick less
+    one-less : (now all : ℕ) → all + H .ticks ≤ (b .tick - now) * H .ticks → all ≤ (b .tick - (now + 1)) * H .ticks
     one-less now all h = go (decLt now (b .tick))
       where
         go : Dec (now < b .tick) → all ≤ (b .tick - (now + 1)) * H .ticks
@@ -97,87 +104,74 @@ module _ {H : Length} {t : Table} (some : 1 ≤ H .ticks) (admitted : Admitted H
             let no : ⊥ = omega (arith, ap (λ (x : ℕ). x * H .ticks) none) in
             absurd no
 
-    paid-covers : (p : ℕ) → p < t .count → tick d ≡ ran d p → serverAt d p .deadline .tick ≤ b .tick
-        → sum (t .count) (canGet H b next) ≤ until (next .clock) b .ticks * H .ticks
-    paid-covers p known e h =
-        rw (ap (λ (m : Moved Turn). m .dispatcher .clock) e ∙ ran-clock d p)
+    -- a tick that is given under a deadline no later than b is paid for
+    paid-covers : (p : ℕ) → p < t .count → next .clock ≡ later (d .clock) (ticks 1)
+        → choiceOf (tick d .answer) ≡ given p (serverAt d p .deadline) → serverAt d p .deadline .tick ≤ b .tick → CoversNext
+    paid-covers p known clock choice h =
+        rw clock
         (one-less (d .clock .tick) _
         (le-trans
         (sum-falls (t .count) (H .ticks) p (canGet H b next) (canGet H b d)
         (λ i q. omega (arith, tick-pays admitted b (ok .standing) i q))
         known
-        (rw under at (tick-pays admitted b (ok .standing) p known)))
+        (rw (choice, under-own p b (serverAt d p .deadline), le-leb _ _ h) at (tick-pays admitted b (ok .standing) p known)))
         (ok .covers b)))
+
+    -- where every server with work and budget has a later deadline, each server can get no more than its share
+    beyond-covers : ((i : ℕ) → i < t .count → idle (serverAt d i) ≡ false → 1 ≤ serverAt d i .remaining .ticks → b .tick < serverAt d i .deadline .tick)
+        → CoversNext
+    beyond-covers beyond = shares-cover (next .clock) b (canGet H b next) (λ i known. each i known (tick-server (ok .standing .within) i))
       where
-        under : isUnder p b (choiceOf (tick d .answer)) ≡ true
-        under =
-            ap (λ (m : Moved Turn). isUnder p b (choiceOf (m .answer))) e
-            ∙ ap (isUnder p b) (ran-choice d p)
-            ∙ under-own p b (serverAt d p .deadline)
-            ∙ le-leb _ _ h
+        standing : Standing t next
+        standing = tick-standing (ok .standing)
 
-    -- and where it is given under a later one, or to nobody, no server with work can get anything up to b
-    beyond-covers : (p : ℕ) → Earliest d (d .count) p → tick d ≡ ran d p → b .tick < serverAt d p .deadline .tick
-        → sum (t .count) (canGet H b next) ≤ until (next .clock) b .ticks * H .ticks
-    beyond-covers p first e h = shares-cover (next .clock) b (canGet H b next) (λ i known. each i known (ℕ-discrete i p) (idle (serverAt d i)) refl)
-      where
-        standing : Standing t d
-        standing = ok .standing
+        left : (i : ℕ) → i < t .count → serverAt next i ≡ serverAt d i → HasBudgetOrRests (next .clock) (serverAt next i)
+            → (w : Bool) → idle (serverAt next i) ≡ w → canGet H b next i ≤ shareFrom (next .clock) b i
+        left i known same (inr rests) w e = rests-share standing (next .clock) b i known rests
+        left i known same (inl budget) true e = rests-share standing (next .clock) b i known (inl e)
+        left i known same (inl budget) false e =
+            let later = beyond i known (ap idle (sym same) ∙ e) (rw same at budget) in
+            rw (potential-busy H (serverAt next i) (next .clock) b e, owed-beyond H b (serverAt next i) (rw same later)) (omega arith)
 
-        same : next ≡ ran d p .dispatcher
-        same = ap (λ (m : Moved Turn). m .dispatcher) e
+        each : (i : ℕ) → i < t .count → TickServer d i → canGet H b next i ≤ shareFrom (next .clock) b i
+        each i known (leaves same away) = left i known same (standing-rests standing i known) (idle (serverAt next i)) refl
+        each i known (serves first now choice) =
+            let budget = busy-charged (ok .standing .within .servers i (first .among)) (eqb-false _ _ (first .works)) in
+            rw (now, served-beyond H (standing-booked admitted (ok .standing) i known) b (next .clock) (beyond i known (first .works) budget))
+            (omega arith)
 
-        stays : (i : ℕ) → (i ≡ p → ⊥) → serverAt next i ≡ serverAt d i
-        stays i q = ap (λ (m : Dispatcher). serverAt m i) same ∙ ran-other (standing .within) p (first .among) i q
-
-        each : (i : ℕ) → i < t .count → Dec (i ≡ p) → (r : Bool) → idle (serverAt d i) ≡ r → canGet H b next i ≤ shareFrom (next .clock) b i
-        each i known (yes q) r w =
-            let nothing : canGet H b next p ≡ 0
-            = ap (λ (s : Server). potential H (next .clock) b s)
-            (ap (λ (m : Dispatcher). serverAt m p) same ∙ ran-own (standing .within) p (first .among))
-            ∙ served-beyond H (standing-booked admitted standing p (subst (λ (j : ℕ). j < t .count) q known)) b (next .clock) h in
-            rw q (omega (arith, nothing))
-        each i known (no q) true w =
-            rw (stays i q) (rests-share standing (next .clock) b i known (inl w))
-        each i known (no q) false w =
-            let later : serverAt d p .deadline .tick ≤ serverAt d i .deadline .tick
-            = first .least i (omega (arith, standing .count)) w in
-            let nothing : potential H (next .clock) b (serverAt d i) ≡ 0
-            = potential-busy H (serverAt d i) (next .clock) b w ∙ owed-beyond H b (serverAt d i) (omega arith) in
-            rw (stays i q) (omega (arith, nothing))
-
-    idle-covers : NoneWorks d (d .count) → next ≡ oneLater d → sum (t .count) (canGet H b next) ≤ until (next .clock) b .ticks * H .ticks
-    idle-covers none same =
-        shares-cover (next .clock) b (canGet H b next)
-        (λ i known. rw (ap (λ (m : Dispatcher). serverAt m i) same)
-        (rests-share (ok .standing) (next .clock) b i known (inl (none i (omega (arith, ok .standing .count))))))
-
-    tick-covers : sum (t .count) (canGet H b next) ≤ until (next .clock) b .ticks * H .ticks
+    tick-covers : CoversNext
     tick-covers = go (tick-cases (ok .standing .within))
       where
-        go : TickCase d → sum (t .count) (canGet H b next) ≤ until (next .clock) b .ticks * H .ticks
-        go (ended e) = rw (ap (λ (m : Moved Turn). m .dispatcher) e) (ok .covers b)
-        go (nobodys none e) = idle-covers none (ap (λ (m : Moved Turn). m .dispatcher) e)
-        go (servers p first e) = at (decLt (b .tick) (serverAt d p .deadline .tick))
+        go : TickCase d → CoversNext
+        go (refusedTick same choice) = rw same (ok .covers b)
+        go (idleTick none clock choice) = beyond-covers (λ i known busy budget. not-both (none i (omega (arith, ok .standing .count))) busy)
+        go (givenTick p first clock choice) = at (decLt (b .tick) (serverAt d p .deadline .tick))
           where
-            at : Dec (b .tick < serverAt d p .deadline .tick) → sum (t .count) (canGet H b next) ≤ until (next .clock) b .ticks * H .ticks
-            at (yes h) = beyond-covers p first e h
-            at (no h) = paid-covers p (omega (arith, first .among, ok .standing .count)) e (omega arith)
+            at : Dec (b .tick < serverAt d p .deadline .tick) → CoversNext
+            at (yes h) =
+                beyond-covers (λ i known busy budget. le-trans h (first .least i (omega (arith, ok .standing .count)) busy))
+            at (no h) = paid-covers p (omega (arith, first .among, ok .standing .count)) clock choice (omega arith)
 
-  pub tick-covered : {d : Dispatcher} → Covered H t d → Covered H t (tick d .dispatcher)
-  tick-covered ok = record { standing = tick-standing (ok .standing); covers = tick-covers ok }
+  tick-covered : {d : Dispatcher} → Covered H t d → Covered H t (tick d .dispatcher)
+  tick-covered ok =
+      record {
+        standing = tick-standing (ok .standing);
+        covers = tick-covers ok;
+        rests = standing-rests (tick-standing (ok .standing));
+      }
 
-  -- and so does a course of moves
+  -- So does a course of moves.
   pub after-covered : {d : Dispatcher} → Covered H t d → (moves : List Move) → Covered H t (after d moves)
   unfolding after
   after-covered ok [] = ok
   after-covered ok (anArrival j cost ∷ more) = after-covered (arrival-covered ok j cost) more
   after-covered ok (aTick ∷ more) = after-covered (tick-covered ok) more
 
-  -- A busy server's deadline is ahead: what is left of its budget is to be had by then.
+  -- The deadline of a server with work is ahead: one that is held back rests till then, and what is left of a budget is to be had by then.
   pub deadline-ahead : {d : Dispatcher} → Covered H t d → (i : ℕ) → i < t .count → idle (serverAt d i) ≡ false
       → d .clock .tick < serverAt d i .deadline .tick
-  deadline-ahead {d} ok i known busy = go (decLt (d .clock .tick) (serverAt d i .deadline .tick))
+  deadline-ahead {d} ok i known busy = go (ok .rests i known)
     where
       s : Server
       s = serverAt d i
@@ -185,13 +179,10 @@ module _ {H : Length} {t : Table} (some : 1 ≤ H .ticks) (admitted : Admitted H
       now : Moment
       now = d .clock
 
-      left : 1 ≤ s .remaining .ticks
-      left = busy-charged (ok .standing .within .servers i (omega (arith, ok .standing .count))) (eqb-false _ _ busy)
-
-      go : Dec (now .tick < s .deadline .tick) → now .tick < s .deadline .tick
-      go (yes h) = h
-      go (no h) =
-          let owes : canGet H now d i ≡ H .ticks * s .remaining .ticks + until (s .deadline) now .ticks * shareOf H s
+      with-budget : 1 ≤ s .remaining .ticks → Dec (now .tick < s .deadline .tick) → now .tick < s .deadline .tick
+      with-budget left (yes h) = h
+      with-budget left (no h) =
+          let owes : canGet H now d i ≡ H .ticks * s .remaining .ticks + until (s .deadline) now .ticks * ownShare H s
           = potential-busy H s now now busy ∙ owed-reached H now s (omega arith) in
           let none : now .tick - now .tick ≡ 0 = omega arith in
           let no : ⊥
@@ -205,16 +196,19 @@ module _ {H : Length} {t : Table} (some : 1 ≤ H .ticks) (admitted : Admitted H
           ) in
           absurd no
 
+      go : HasBudgetOrRests now s → now .tick < s .deadline .tick
+      go (inl left) = with-budget left (decLt (now .tick) (s .deadline .tick))
+      go (inr (inl none)) = not-both none busy
+      go (inr (inr held)) = held .1
+
   -- So a tick ends no later than the deadline that it was given under.
   pub tick-in-time : {d : Dispatcher} → Covered H t d → (i : ℕ) (deadline : Moment) → choiceOf (tick d .answer) ≡ given i deadline
       → tick d .dispatcher .clock .tick ≤ deadline .tick
   tick-in-time {d} ok i deadline e = go (tick-cases (ok .standing .within))
     where
       go : TickCase d → tick d .dispatcher .clock .tick ≤ deadline .tick
-      go (ended q) = absurd (nobody≢given (sym (ap (λ (m : Moved Turn). choiceOf (m .answer)) q) ∙ e))
-      go (nobodys none q) = absurd (nobody≢given (sym (ap (λ (m : Moved Turn). choiceOf (m .answer)) q) ∙ e))
-      go (servers p first q) =
-          let under : serverAt d p .deadline ≡ deadline
-          = given-deadline (sym (ap (λ (m : Moved Turn). choiceOf (m .answer)) q ∙ ran-choice d p) ∙ e) in
-          rw (ap (λ (m : Moved Turn). m .dispatcher .clock) q ∙ ran-clock d p)
-          (rw (sym under) (omega (arith, deadline-ahead ok p (omega (arith, first .among, ok .standing .count)) (first .works))))
+      go (refusedTick same choice) = absurd (nobody≢given (sym choice ∙ e))
+      go (idleTick none clock choice) = absurd (nobody≢given (sym choice ∙ e))
+      go (givenTick p first clock choice) =
+          rw (clock, sym (given-deadline (sym choice ∙ e)))
+          (omega (arith, deadline-ahead ok p (omega (arith, first .among, ok .standing .count)) (first .works)))

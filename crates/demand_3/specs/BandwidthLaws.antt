@@ -1,13 +1,13 @@
 -- The bandwidth: no move raises what a server can still get, and a tick under a deadline no later than b lowers it by the frame. So the
--- ticks that it gets are paid from what it could get at the moment when it was idle. Neither admission nor the picking enters here.
+-- ticks that it gets are paid from what it could get at the moment when it was idle. Of admission only that each booking is sound enters
+-- here, and of the pick only that the server has work.
 use Prim.Native.Nat.{ℕ, _+_, _*_, _≤_, _<_}
-use borrow.Author.Tests.{eq-eqb, ne-eqb, leb-true, leb-false, eqb-false}
-use lib.Dec.{eqb, leb}
+use borrow.Author.Tests.{leb-true, leb-false, eqb-false}
+use lib.Dec.{leb}
 use mathlib.Core.Bool.{Bool, true, false, cond}
 use mathlib.Core.List.{List, [], _∷_}
 use mathlib.Core.Logic.{_⊎_, inl, inr}
-use mathlib.Core.Path.{_≡_, refl, sym, _∙_, ap, subst, subst⁻¹}
-use native.Mathlib.Decide.{ℕ-discrete, decLt}
+use mathlib.Core.Path.{_≡_, refl, sym, ap}
 use native.Mathlib.Nat.{le-of-mul-le-mul-right, le-trans, mul-le-mul-right}
 use native.Mathlib.Omega.{arith}
 use Rattle.booking.specs.Admission.{Table}
@@ -16,12 +16,11 @@ use Rattle.booking.specs.Share.{share}
 use Rattle.booking.specs.ShareLaws.{share-exact}
 use Rattle.clock.specs.declared.Length.{Length}
 use Rattle.clock.specs.declared.Moment.{Moment}
-use Rattle.clock.specs.Clock.{later, ticks, until}
+use Rattle.clock.specs.Clock.{ticks, until}
 use Rattle.dispatcher.specs.declared.Dispatcher.{Dispatcher}
-use Rattle.dispatcher.specs.Moves.{Moved, Turn, arrival, oneLater, ran, tick}
+use Rattle.dispatcher.specs.Moves.{arrival, tick}
 use Rattle.dispatcher.specs.Pick.{serverAt}
 use Rattle.dispatcher.specs.PickLaws.{Earliest}
-use Rattle.history.specs.Choice.{nobody, given}
 use Rattle.moments.specs.MomentLaws.{arrival-keeps}
 use Rattle.moments.specs.Moments.{choiceOf}
 use Rattle.server.specs.Moves.{arrived, served}
@@ -29,9 +28,9 @@ use Rattle.server.specs.Potential.{potential}
 use Rattle.server.specs.PotentialLaws.{Booked, arrived-potential, later-potential, served-potential, served-beyond, rests-potential}
 use Rattle.server.specs.RangeLaws.{busy-charged}
 use Rattle.server.specs.Server.{idle}
-use Rattle.demand_3.specs.Course.{Move, anArrival, aTick, moved, after, givenBy, isUnder, got}
-use Rattle.demand_3.specs.CourseLaws.{under-nobody, under-own, under-other}
-use Rattle.demand_3.specs.MovedLaws.{TickCase, ended, nobodys, servers, arrival-server, tick-cases, ran-own, ran-other, ran-clock, ran-choice}
+use Rattle.demand_3.specs.Course.{Move, anArrival, aTick, isUnder, got}
+use Rattle.demand_3.specs.CourseLaws.{under-away, under-nobody, under-own}
+use Rattle.demand_3.specs.MovedLaws.{TickServer, leaves, serves, arrival-server, tick-server, tick-clock}
 use Rattle.demand_3.specs.StandingLaws.{Standing, standing-booked, arrival-standing, tick-standing}
 
 -- what server i of a dispatcher can still get under deadlines no later than b
@@ -51,64 +50,33 @@ module _ {H : Length} {t : Table} (admitted : Admitted H t) (b : Moment) where
       go (inl q) = rw (arrival-keeps d j cost .0, q) (omega arith)
       go (inr q) = rw (arrival-keeps d j cost .0, q) (arrived-potential H (standing-booked admitted ok i known) (d .clock) b cost)
 
-  -- a tick that it gets under a deadline no later than b is paid with the frame, and no tick raises it
+  -- nor does a tick, and one that the server gets under a deadline no later than b lowers it by the frame
   pub tick-pays : {d : Dispatcher} → Standing t d → (i : ℕ) → i < t .count
       → canGet H b (tick d .dispatcher) i + cond (isUnder i b (choiceOf (tick d .answer))) (H .ticks) 0 ≤ canGet H b d i
-  tick-pays {d} ok i known = go (tick-cases (ok .within))
+  tick-pays {d} ok i known = go (tick-server (ok .within) i)
     where
+      next : Dispatcher
+      next = tick d .dispatcher
+
       booked : Booked H (serverAt d i)
       booked = standing-booked admitted ok i known
 
-      Paid : Moved Turn → Type 0
-      Paid m = canGet H b (m .dispatcher) i + cond (isUnder i b (choiceOf (m .answer))) (H .ticks) 0 ≤ canGet H b d i
+      own : Earliest d (d .count) i → (u : Bool) → leb (serverAt d i .deadline .tick) (b .tick) ≡ u
+          → potential H (next .clock) b (served (serverAt d i)) + cond u (H .ticks) 0 ≤ canGet H b d i
+      own first true u =
+          served-potential H booked b (d .clock) (next .clock) (first .works)
+          (busy-charged (ok .within .servers i (first .among)) (eqb-false _ _ (first .works)))
+          (leb-true _ _ u)
+      own first false u = rw (served-beyond H booked b (next .clock) (leb-false _ _ u)) (omega arith)
 
-      -- nothing to pay for, and time that passes at most
-      unpaid : (e : Dispatcher) → serverAt e i ≡ serverAt d i → d .clock .tick ≤ e .clock .tick → canGet H b e i + 0 ≤ canGet H b d i
-      unpaid e q h = rw q (omega (arith, later-potential H booked (d .clock) (e .clock) b h))
-
-      -- it runs
-      own : (p : ℕ) → Earliest d (d .count) p → i ≡ p → Paid (ran d p)
-      own p first q = subst (λ (p : ℕ). Paid (ran d p)) q (go (leb (serverAt d i .deadline .tick) (b .tick)) refl)
-        where
-          mine : Earliest d (d .count) i
-          mine = subst⁻¹ (Earliest d (d .count)) q first
-
-          now : serverAt (ran d i .dispatcher) i ≡ served (serverAt d i)
-          now = ran-own (ok .within) i (mine .among)
-
-          left : 1 ≤ serverAt d i .remaining .ticks
-          left = busy-charged (ok .within .servers i (mine .among)) (eqb-false _ _ (mine .works))
-
-          go : (l : Bool) → leb (serverAt d i .deadline .tick) (b .tick) ≡ l → Paid (ran d i)
-          go true l =
-              rw (ran-choice d i, under-own i b (serverAt d i .deadline), l, now)
-              (served-potential H booked b (d .clock) (ran d i .dispatcher .clock) (mine .works) left (leb-true _ _ l))
-          go false l =
-              rw (
-                ran-choice d i,
-                under-own i b (serverAt d i .deadline),
-                l,
-                now,
-                served-beyond H booked b (ran d i .dispatcher .clock) (leb-false _ _ l),
-              ) (omega arith)
-
-      -- another runs
-      other : (p : ℕ) → Earliest d (d .count) p → (i ≡ p → ⊥) → Paid (ran d p)
-      other p first q =
-          rw (ran-choice d p, under-other i b p (serverAt d p .deadline) q)
-          (unpaid (ran d p .dispatcher) (ran-other (ok .within) p (first .among) i q) (rw (ran-clock d p) (omega arith)))
-
-      go : TickCase d → canGet H b (tick d .dispatcher) i + cond (isUnder i b (choiceOf (tick d .answer))) (H .ticks) 0 ≤ canGet H b d i
-      go (ended e) = subst⁻¹ Paid e (rw (under-nobody i b) (unpaid d refl (omega arith)))
-      go (nobodys none e) = subst⁻¹ Paid e (rw (under-nobody i b) (unpaid (oneLater d) refl (omega arith)))
-      go (servers p first e) = subst⁻¹ Paid e (at (ℕ-discrete i p))
-        where
-          at : Dec (i ≡ p) → Paid (ran d p)
-          at (yes q) = own p first q
-          at (no q) = other p first q
+      go : TickServer d i → canGet H b next i + cond (isUnder i b (choiceOf (tick d .answer))) (H .ticks) 0 ≤ canGet H b d i
+      go (leaves same away) =
+          rw (same, under-away i b (choiceOf (tick d .answer)) away)
+          (omega (arith, later-potential H booked (d .clock) (next .clock) b (tick-clock (ok .within))))
+      go (serves first now choice) = rw (now, choice, under-own i b (serverAt d i .deadline)) (own first _ refl)
 
   -- so the ticks that it gets in a course of moves are paid from what it can get at the beginning
-  pub got-paid : {d : Dispatcher} → Standing t d → (i : ℕ) → i < t .count → (moves : List Move)
+  got-paid : {d : Dispatcher} → Standing t d → (i : ℕ) → i < t .count → (moves : List Move)
       → got i b d moves * H .ticks ≤ canGet H b d i
   unfolding got
   got-paid ok i known [] = omega arith

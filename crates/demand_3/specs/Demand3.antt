@@ -6,20 +6,23 @@ use Prim.Native.Nat.{ℕ, _*_, _≤_, _<_}
 use mathlib.Core.Bool.{Bool, true, false}
 use mathlib.Core.List.{List}
 use mathlib.Core.Path.{_≡_}
-use Rattle.booking.specs.Admission.{Table}
+use Rattle.booking.specs.Admission.{Table, admission}
+use Rattle.clock.specs.declared.Length.{Length}
 use Rattle.clock.specs.declared.Moment.{Moment}
 use Rattle.clock.specs.Clock.{until}
 use Rattle.dispatcher.specs.declared.Dispatcher.{Dispatcher}
 use Rattle.dispatcher.specs.Moves.{ranOne, tick}
 use Rattle.dispatcher.specs.Pick.{serverAt}
-use Rattle.refusal.specs.Refusals.{gave}
+use Rattle.dispatcher.specs.Start.{atStart}
+use Rattle.refusal.specs.Refusals.{gave, accepted}
 use Rattle.server.specs.Server.{idle}
+use Rattle.sizes.specs.Sizes.{mostFrame, mostServers}
 use Rattle.demand_3.specs.Course.{Move, after, got}
 
--- Of a table's dispatcher at its start.
+-- Of a table and its dispatcher at the start.
 module _ (start : Dispatcher) (t : Table) where
-  -- A server has no work waiting where some moves have led to, at moment a, be it before, among or after the arrivals of a. It may get
-  -- so many ticks by any further moves, for any b. (Where b lies before a, that is none.)
+  -- Moves have led to where server i has no work waiting. The clock there shows the moment a, be it before, among or after the arrivals
+  -- of a. This bounds the ticks that the server gets by further moves under deadlines no later than b. (None where b is before a.)
   abbrev pub Bandwidth : Type 0
   Bandwidth =
       (moves : List Move) (i : ℕ) → i < t .count → idle (serverAt (after start moves) i) ≡ true
@@ -44,3 +47,9 @@ module _ (start : Dispatcher) (t : Table) where
     pub bandwidth : Bandwidth
     pub deadlines-ahead : DeadlinesAhead
     pub ticks-in-time : TicksInTime
+
+-- "On an admitted table, from a fresh start": of every frame and table within the sizes of the rules. `Demand3Laws` proves it.
+abbrev pub OnAdmittedTables : Type 0
+OnAdmittedTables =
+    (H : Length) (t : Table) → 1 ≤ H .ticks → H .ticks ≤ mostFrame → t .count ≤ mostServers → admission H t ≡ accepted
+    → Demand3 (atStart H t) t

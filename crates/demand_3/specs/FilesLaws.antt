@@ -3,13 +3,12 @@ use Prim.Native.Nat.{ℕ, zero, suc, _+_, _-_, _*_, _≤_, _<_}
 use borrow.Author.Tests.{eqb-true, eq-eqb}
 use lib.Dec.{eqb}
 use mathlib.Core.Bool.{Bool, true, false}
-use mathlib.Core.List.{List, _++_}
-use mathlib.Core.Logic.{_⊎_, inl, inr}
-use mathlib.Core.Path.{_≡_, refl, sym, _∙_, ap, subst}
+use mathlib.Core.List.{_++_}
+use mathlib.Core.Logic.{inl, inr}
+use mathlib.Core.Path.{_≡_, refl, sym, _∙_, ap}
 use native.Mathlib.Decide.{decLt}
 use native.Mathlib.Nat.{le-trans}
 use native.Mathlib.Omega.{arith}
-use Rattle.clock.specs.declared.Length.{Length}
 use Rattle.clock.specs.declared.Moment.{Moment}
 use Rattle.clock.specs.Clock.{moment, until}
 use Rattle.counting.specs.Count.{count-empty}
@@ -24,14 +23,13 @@ use Rattle.moments.specs.MomentLaws.{at-within, at-keeps, taken-keeps, taken-wi
 use Rattle.moments.specs.Moments.{taken, atMoment, ready, turn, choiceOf, history}
 use Rattle.refusal.specs.Refusals.{Said, refused, gave}
 use Rattle.server.specs.Server.{idle}
-use Rattle.sizes.specs.Sizes.{clockEnd}
 use Rattle.workfile.specs.FitLaws.{Fit, judged-fit}
 use Rattle.workfile.specs.Work.{Work}
-use Rattle.demand_3.specs.Course.{Move, after, isUnder}
+use Rattle.demand_3.specs.Course.{after, isUnder}
 use Rattle.demand_3.specs.CourseLaws.{after-both}
 use Rattle.demand_3.specs.Demand3.{Demand3}
-use Rattle.demand_3.specs.Demand3Laws.{demand-3}
-use Rattle.demand_3.specs.Files.{NoWorkAt, gotFrom, FileDemand3}
+use Rattle.demand_3.specs.Demand3Laws.{admitted-demand-3}
+use Rattle.demand_3.specs.Files.{NoWorkAt, gotFrom, FileDemand3, OfAcceptedFiles}
 use Rattle.demand_3.specs.MovedLaws.{arrival-waiting}
 use Rattle.demand_3.specs.RunCourseLaws.{arrivalsOf, ready-course, movesFrom, run-course, run-got}
 
@@ -50,7 +48,7 @@ taken-waiting w (suc k) {d} ok i = go (eqb (w .arrival k .moment .tick) (d .cloc
 
 module _ {w : Work} {places : ℕ} (fit : Fit w places) where
   demand : Demand3 (atStart (w .frame) (w .table)) (w .table)
-  demand = demand-3 (w .frame) (w .table) (fit .frame-from) (fit .frame-to) (fit .servers) (fit .admitted)
+  demand = admitted-demand-3 (w .frame) (w .table) (fit .frame-from) (fit .frame-to) (fit .servers) (fit .admitted)
 
   -- where the run stands at a moment, moves from the start have led to
   at-reached : (a : ℕ) → after (atStart (w .frame) (w .table)) (movesFrom w 0 a) ≡ atMoment w a
@@ -75,10 +73,10 @@ module _ {w : Work} {places : ℕ} (fit : Fit w places) where
   next-clock a h = at-clock (suc a) h
 
   -- a server that has no work after the arrivals of a has none before them
-  no-work-before : (a i : ℕ) → NoWorkAt w a i → idle (serverAt (atMoment w a) i) ≡ true
+  no-work-before : (i a : ℕ) → NoWorkAt w i a → idle (serverAt (atMoment w a) i) ≡ true
   unfolding ready
-  no-work-before a i (inl none) = none
-  no-work-before a i (inr none) =
+  no-work-before i a (inl none) = none
+  no-work-before i a (inr none) =
       eq-eqb (serverAt (atMoment w a) i .waiting .ticks) 0
       (omega (
         arith,
@@ -86,12 +84,12 @@ module _ {w : Work} {places : ℕ} (fit : Fit w places) where
         eqb-true (serverAt (taken w (w .arrivals) (atMoment w a)) i .waiting .ticks) 0 none,
       ))
 
-  bounded : (a i : ℕ) → i < w .table .count → idle (serverAt (atMoment w a) i) ≡ true → (b : Moment)
-      → gotFrom w a i b * w .table .booking i .period .ticks ≤ until (moment a) b .ticks * w .table .booking i .budget .ticks
-  bounded a i known none b = go (decLt (w .horizon .tick) a)
+  bounded : (i a : ℕ) → i < w .table .count → idle (serverAt (atMoment w a) i) ≡ true → (b : Moment)
+      → gotFrom w i a b * w .table .booking i .period .ticks ≤ until (moment a) b .ticks * w .table .booking i .budget .ticks
+  bounded i a known none b = go (decLt (w .horizon .tick) a)
     where
       go : Dec (w .horizon .tick < a)
-          → gotFrom w a i b * w .table .booking i .period .ticks ≤ until (moment a) b .ticks * w .table .booking i .budget .ticks
+          → gotFrom w i a b * w .table .booking i .period .ticks ≤ until (moment a) b .ticks * w .table .booking i .budget .ticks
       go (yes h) =
           let over : w .horizon .tick - a ≡ 0 = omega arith in
           rw (over, count-empty (λ q. isUnder i b (history w (a + q)))) (omega arith)
@@ -99,26 +97,29 @@ module _ {w : Work} {places : ℕ} (fit : Fit w places) where
           let bound = (rw (at-reached a) at (demand .bandwidth (movesFrom w 0 a) i known)) none b (movesFrom w a (w .horizon .tick - a)) in
           rw (run-got w i b a (w .horizon .tick - a), at-clock a (omega arith)) at bound
 
-  ahead : (a i : ℕ) → a ≤ w .horizon .tick → i < w .table .count → idle (serverAt (ready w a) i) ≡ false
+  ahead : (i a : ℕ) → i < w .table .count → a ≤ w .horizon .tick → idle (serverAt (ready w a) i) ≡ false
       → a < serverAt (ready w a) i .deadline .tick
-  ahead a i h known busy =
+  ahead i a known h busy =
       let later = (rw (ready-reached a) at (demand .deadlines-ahead (movesFrom w 0 a ++ arrivalsOf w a) i known)) busy in
       rw (ready-clock a h) at later
 
-  in-time : (a i : ℕ) (deadline : Moment) → a < w .horizon .tick → (said : Said Turn) → turn w a ≡ said
+  in-time : (i a : ℕ) (deadline : Moment) → a < w .horizon .tick → (said : Said Turn) → turn w a ≡ said
       → choiceOf said ≡ given i deadline → a + 1 ≤ deadline .tick
   unfolding turn
-  in-time a i deadline h (refused number place) q e = absurd (nobody≢given e)
-  in-time a i deadline h (gave idled) q e = absurd (nobody≢given e)
-  in-time a i deadline h (gave (ranOne j under postponed)) q e =
+  in-time i a deadline h (refused number place) q e = absurd (nobody≢given e)
+  in-time i a deadline h (gave idled) q e = absurd (nobody≢given e)
+  in-time i a deadline h (gave (ranOne j under postponed)) q e =
       let later = (rw (ready-reached a) at (demand .ticks-in-time (movesFrom w 0 a ++ arrivalsOf w a) j under postponed)) q in
       rw (sym (given-deadline e)) (omega (arith, rw (next-clock a h) at later))
 
-  pub file-demand-3 : FileDemand3 w
+  pub fit-demand-3 : FileDemand3 w
   unfolding history
-  file-demand-3 =
+  fit-demand-3 =
       record {
-        bandwidth = λ a i known none b. bounded a i known (no-work-before a i none) b;
+        bandwidth = λ i a known none b. bounded i a known (no-work-before i a none) b;
         deadlines-ahead = ahead;
-        ticks-in-time = λ a i deadline h e. in-time a i deadline h (turn w a) refl e;
+        ticks-in-time = λ i a deadline h e. in-time i a deadline h (turn w a) refl e;
       }
+
+pub file-demand-3 : OfAcceptedFiles
+file-demand-3 file places accepts = fit-demand-3 (judged-fit file places accepts)

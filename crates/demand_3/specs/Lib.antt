@@ -10,6 +10,6 @@ pub mod Live
 pub mod LiveLaws
 pub mod MovedLaws
 pub mod RunCourseLaws
-pub mod Runs
-pub mod RunsLaws
 pub mod StandingLaws
+pub mod Traces
+pub mod TracesLaws

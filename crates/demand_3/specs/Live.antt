@@ -3,6 +3,7 @@ use Prim.Native.Nat.{ℕ, _*_, _≤_, _<_}
 use mathlib.Core.Bool.{Bool, true, false}
 use mathlib.Core.List.{List}
 use mathlib.Core.Path.{_≡_}
+use Rattle.booking.specs.Admission.{Table}
 use Rattle.clock.specs.declared.Length.{Length}
 use Rattle.clock.specs.declared.Moment.{Moment}
 use Rattle.clock.specs.Clock.{until}
@@ -15,26 +16,33 @@ use Rattle.opening.specs.Opening.{listed, judged, opening}
 use Rattle.refusal.specs.Refusals.{accepted}
 use Rattle.server.specs.Server.{idle}
 use Rattle.demand_3.specs.Course.{Move, after, got}
+use Rattle.demand_3.specs.Demand3.{Demand3}
 
--- the opening of a list of Q, T pairs under the frame H was accepted, and moves after it have led to d
-pub record Live (l : List ℕ) (H : Length) (d : Dispatcher) : Type 0 where
-  pub opened : judged l H ≡ accepted
+-- moves have led from one dispatcher to another
+pub record Led (start d : Dispatcher) : Type 0 where
   pub moves : List Move
-  pub led : d ≡ after (opening l H .dispatcher) moves
+  pub to : d ≡ after start moves
 
--- moves from d on have led to e, and n of their ticks went to server i under deadlines no later than b
-pub record Since (d : Dispatcher) (i : ℕ) (b : Moment) (e : Dispatcher) (n : ℕ) : Type 0 where
+-- the same, and n of their ticks went to server i under deadlines no later than b
+pub record LedCounting (i : ℕ) (b : Moment) (start d : Dispatcher) (n : ℕ) : Type 0 where
   pub moves : List Move
-  pub led : e ≡ after d moves
-  pub counted : n ≡ got i b d moves
+  pub to : d ≡ after start moves
+  pub counted : n ≡ got i b start moves
 
--- what holds of a live dispatcher
-pub record LiveDemand3 (l : List ℕ) (d : Dispatcher) : Type 0 where
-  -- the ticks that server i has got, by any moves since it had no work waiting, under deadlines no later than b
-  pub bandwidth : (i : ℕ) → i < listed l .count → idle (serverAt d i) ≡ true → (b : Moment) (e : Dispatcher) (n : ℕ) → Since d i b e n
-      → n * listed l .booking i .period .ticks ≤ until (d .clock) b .ticks * listed l .booking i .budget .ticks
-  -- each server with work waiting has its deadline ahead
-  pub deadlines-ahead : (i : ℕ) → i < listed l .count → idle (serverAt d i) ≡ false → d .clock .tick < serverAt d i .deadline .tick
+-- what holds of a dispatcher that a caller holds, its table being t
+pub record LiveDemand3 (t : Table) (d : Dispatcher) : Type 0 where
+  -- server i has no work waiting: so many ticks it gets by any moves from here to e, under deadlines no later than b
+  pub bandwidth : (i : ℕ) → i < t .count → idle (serverAt d i) ≡ true → (b : Moment) (e : Dispatcher) (n : ℕ) → LedCounting i b d e n
+      → n * t .booking i .period .ticks ≤ until (d .clock) b .ticks * t .booking i .budget .ticks
+  -- a server with work waiting has its deadline ahead
+  pub deadlines-ahead : (i : ℕ) → i < t .count → idle (serverAt d i) ≡ false → d .clock .tick < serverAt d i .deadline .tick
   -- a tick that answers a server and a deadline has ended by that deadline
   pub ticks-in-time : (r : Ticked) → tickSays r ≡ tick d → (i : ℕ) (deadline : Moment) (postponed : Bool)
       → r .answer ≡ Ran i deadline postponed → r .dispatcher .clock .tick ≤ deadline .tick
+
+-- Of every live table, a list of Q, T pairs and H, that is accepted; and of wherever moves lead from there. `LiveLaws` proves both.
+abbrev pub OfAcceptedOpenings : Type 0
+OfAcceptedOpenings = (l : List ℕ) (H : Length) → judged l H ≡ accepted → Demand3 (opening l H .dispatcher) (listed l)
+
+abbrev pub WhereverMovesLead : Type 0
+WhereverMovesLead = (start : Dispatcher) (t : Table) → Demand3 start t → (d : Dispatcher) → Led start d → LiveDemand3 t d

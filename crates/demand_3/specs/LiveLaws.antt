@@ -1,8 +1,8 @@
--- Demand 3 for whoever calls the live moves: after a successful opening, whatever is accepted or refused, in terms of what they answer.
+-- Demand 3 holds for whoever calls the live moves: by their contracts, after a successful opening, whatever is accepted or refused then.
 use Prim.Native.Nat.{ℕ, _+_, _*_, _≤_, _<_}
 use mathlib.Core.Bool.{Bool, true, cond}
 use mathlib.Core.List.{List, [], _∷_, _++_}
-use mathlib.Core.Path.{_≡_, refl, sym, _∙_, ap, ap₂, subst}
+use mathlib.Core.Path.{_≡_, refl, sym, _∙_, ap, ap₂, subst, subst⁻¹}
 use native.Mathlib.Nat.{add-zero}
 use Rattle.clock.specs.declared.Length.{Length}
 use Rattle.clock.specs.declared.Moment.{Moment}
@@ -22,91 +22,97 @@ use Rattle.server.specs.Server.{idle}
 use Rattle.demand_3.specs.Course.{Move, anArrival, aTick, moved, after, givenBy, isUnder, got}
 use Rattle.demand_3.specs.CourseLaws.{under-nobody, after-last, got-last}
 use Rattle.demand_3.specs.Demand3.{Demand3}
-use Rattle.demand_3.specs.Demand3Laws.{demand-3}
-use Rattle.demand_3.specs.Live.{Live, Since, LiveDemand3}
+use Rattle.demand_3.specs.Demand3Laws.{admitted-demand-3}
+use Rattle.demand_3.specs.Live.{Led, LedCounting, OfAcceptedOpenings, WhereverMovesLead}
+use Rattle.demand_3.specs.StandingLaws.{Standing, start-standing, after-standing}
 
--- demand 3 from every successful opening on
-pub opening-demand-3 : (l : List ℕ) (H : Length) → judged l H ≡ accepted → Demand3 (opening l H .dispatcher) (listed l)
+pub opening-demand-3 : OfAcceptedOpenings
 opening-demand-3 l H e =
     let sizes = accepted-in-range l H e in
-    rw (opening-accepted l H e)
-    (demand-3 H (listed l) (sizes .from) (sizes .to) (sizes .few) (accepted-admitted l H e))
+    rw (opening-accepted l H e) (admitted-demand-3 H (listed l) (sizes .from) (sizes .to) (sizes .few) (accepted-admitted l H e))
 
--- A caller's dispatcher is live from an accepted opening on, whatever it moves.
-module _ {l : List ℕ} {H : Length} where
-  pub live-opened : (r : Opened) → openingSays r ≡ opening l H → r .answer ≡ Accepted → Live l H (r .dispatcher)
-  unfolding opening after
-  live-opened r e answer =
-      record {
-        opened = sym (ap (λ (m : Moved (Unit {0})). m .answer) e) ∙ ap onPaper answer;
-        moves = [];
-        led = ap (λ (m : Moved (Unit {0})). m .dispatcher) e;
-      }
-
-  -- one move more
-  live-moved : {d : Dispatcher} → Live l H d → (m : Move) (e : Dispatcher) → e ≡ moved d m → Live l H e
-  live-moved ok m e is =
-      record {
-        opened = ok .opened;
-        moves = ok .moves ++ m ∷ [];
-        led = is ∙ ap (λ (d : Dispatcher). moved d m) (ok .led) ∙ sym (after-last (opening l H .dispatcher) (ok .moves) m);
-      }
-
-  module _ {d : Dispatcher} (ok : Live l H d) where
-    pub live-arrived : (r : Arrived) (i : ℕ) (cost : Length) → arrivalSays r ≡ arrival d i cost → Live l H (r .dispatcher)
-    live-arrived r i cost e =
-        live-moved ok (anArrival i cost) (r .dispatcher) (ap (λ (m : Moved (Unit {0})). m .dispatcher) e)
-
-    pub live-ticked : (r : Ticked) → tickSays r ≡ tick d → Live l H (r .dispatcher)
-    live-ticked r e = live-moved ok aTick (r .dispatcher) (ap (λ (m : Moved Turn). m .dispatcher) e)
-
-    demand : Demand3 (opening l H .dispatcher) (listed l)
-    demand = opening-demand-3 l H (ok .opened)
-
-    bounded : (i : ℕ) → i < listed l .count → idle (serverAt d i) ≡ true → (b : Moment) (further : List Move)
-        → got i b d further * listed l .booking i .period .ticks ≤ until (d .clock) b .ticks * listed l .booking i .budget .ticks
-    bounded i known = rw (sym (ok .led)) at (demand .bandwidth (ok .moves) i known)
+pub live-demand-3 : WhereverMovesLead
+live-demand-3 start t demand d led =
+    record {
+      bandwidth = λ i known none b e n to. rw (to .counted) (bounded i known none b (to .moves));
+      deadlines-ahead = λ i known. rw (sym (led .to)) at (demand .deadlines-ahead (led .moves) i known);
+      ticks-in-time = λ r e i deadline postponed answer.
+          rw (ap (λ (m : Moved Turn). m .dispatcher) e)
+          (in-time i deadline postponed (sym (ap (λ (m : Moved Turn). m .answer) e) ∙ ap turnOf answer));
+    }
+  where
+    bounded : (i : ℕ) → i < t .count → idle (serverAt d i) ≡ true → (b : Moment) (further : List Move)
+        → got i b d further * t .booking i .period .ticks ≤ until (d .clock) b .ticks * t .booking i .budget .ticks
+    bounded i known = rw (sym (led .to)) at (demand .bandwidth (led .moves) i known)
 
     in-time : (i : ℕ) (deadline : Moment) (postponed : Bool) → tick d .answer ≡ gave (ranOne i deadline postponed)
         → tick d .dispatcher .clock .tick ≤ deadline .tick
-    in-time i deadline postponed = rw (sym (ok .led)) at (demand .ticks-in-time (ok .moves) i deadline postponed)
+    in-time i deadline postponed = rw (sym (led .to)) at (demand .ticks-in-time (led .moves) i deadline postponed)
 
-    pub live-demand-3 : LiveDemand3 l d
-    live-demand-3 =
-        record {
-          bandwidth = λ i known none b e n since. rw (since .counted) (bounded i known none b (since .moves));
-          deadlines-ahead = λ i known. rw (sym (ok .led)) at (demand .deadlines-ahead (ok .moves) i known);
-          ticks-in-time = λ r e i deadline postponed answer.
-              rw (ap (λ (m : Moved Turn). m .dispatcher) e)
-              (in-time i deadline postponed (sym (ap (λ (m : Moved Turn). m .answer) e) ∙ ap turnOf answer));
-        }
+-- What a caller has by the contract of `open_table`, where it answers `Accepted`.
+module _ (l : List ℕ) (H : Length) (r : Opened) (e : openingSays r ≡ opening l H) (answer : r .answer ≡ Accepted) where
+  opened-judged : judged l H ≡ accepted
+  unfolding opening
+  opened-judged = sym (ap (λ (m : Moved (Unit {0})). m .answer) e) ∙ ap onPaper answer
 
--- How a caller counts.
-pub since-none : (d : Dispatcher) (i : ℕ) (b : Moment) → Since d i b d 0
-unfolding after got
-since-none d i b = record { moves = []; led = refl; counted = refl }
+  pub opened-demand-3 : Demand3 (r .dispatcher) (listed l)
+  opened-demand-3 =
+      subst⁻¹ (λ (m : Moved (Unit {0})). Demand3 (m .dispatcher) (listed l)) e (opening-demand-3 l H opened-judged)
 
-module _ {d : Dispatcher} {i : ℕ} {b : Moment} {e : Dispatcher} {n : ℕ} (since : Since d i b e n) where
-  -- one move more
-  since-moved : (m : Move) (f : Dispatcher) → f ≡ moved e m → (more : ℕ) → more ≡ cond (isUnder i b (givenBy e m)) 1 0 → Since d i b f (n + more)
-  since-moved m f is more adds =
+  -- its numbers lie within their ranges, and its servers are those of the table, also wherever moves lead
+  pub opened-standing : {d : Dispatcher} → Led (r .dispatcher) d → Standing (listed l) d
+  opened-standing led =
+      let sizes = accepted-in-range l H opened-judged in
+      rw (led .to, ap (λ (m : Moved (Unit {0})). m .dispatcher) e, opening-accepted l H opened-judged)
+      (after-standing
+      (start-standing H (listed l) (sizes .from) (sizes .to) (sizes .few) (accepted-admitted l H opened-judged))
+      (led .moves))
+
+-- How a caller gets on, move by move, by the contracts of `arrival` and `tick`.
+pub led-none : (d : Dispatcher) → Led d d
+unfolding after
+led-none d = record { moves = []; to = refl }
+
+module _ {start d : Dispatcher} (led : Led start d) where
+  pub led-moved : (m : Move) (e : Dispatcher) → e ≡ moved d m → Led start e
+  led-moved m e is =
       record {
-        moves = since .moves ++ m ∷ [];
-        led = is ∙ ap (λ (x : Dispatcher). moved x m) (since .led) ∙ sym (after-last d (since .moves) m);
+        moves = led .moves ++ m ∷ [];
+        to = is ∙ ap (λ (x : Dispatcher). moved x m) (led .to) ∙ sym (after-last start (led .moves) m);
+      }
+
+  pub led-arrived : (r : Arrived) (i : ℕ) (cost : Length) → arrivalSays r ≡ arrival d i cost → Led start (r .dispatcher)
+  led-arrived r i cost e = led-moved (anArrival i cost) (r .dispatcher) (ap (λ (m : Moved (Unit {0})). m .dispatcher) e)
+
+  pub led-ticked : (r : Ticked) → tickSays r ≡ tick d → Led start (r .dispatcher)
+  led-ticked r e = led-moved aTick (r .dispatcher) (ap (λ (m : Moved Turn). m .dispatcher) e)
+
+-- And how it counts.
+pub counting-none : (i : ℕ) (b : Moment) (d : Dispatcher) → LedCounting i b d d 0
+unfolding after got
+counting-none i b d = record { moves = []; to = refl; counted = refl }
+
+module _ {i : ℕ} {b : Moment} {start d : Dispatcher} {n : ℕ} (led : LedCounting i b start d n) where
+  pub counting-moved : (m : Move) (e : Dispatcher) → e ≡ moved d m → (more : ℕ) → more ≡ cond (isUnder i b (givenBy d m)) 1 0
+      → LedCounting i b start e (n + more)
+  counting-moved m e is more adds =
+      record {
+        moves = led .moves ++ m ∷ [];
+        to = is ∙ ap (λ (x : Dispatcher). moved x m) (led .to) ∙ sym (after-last start (led .moves) m);
         counted =
-            ap₂ _+_ (since .counted) (adds ∙ ap (λ (x : Dispatcher). cond (isUnder i b (givenBy x m)) 1 0) (since .led))
-            ∙ sym (got-last i b d (since .moves) m);
+            ap₂ _+_ (led .counted) (adds ∙ ap (λ (x : Dispatcher). cond (isUnder i b (givenBy x m)) 1 0) (led .to))
+            ∙ sym (got-last i b start (led .moves) m);
       }
 
   -- an arrival counts nothing
-  pub since-arrived : (r : Arrived) (j : ℕ) (cost : Length) → arrivalSays r ≡ arrival e j cost → Since d i b (r .dispatcher) n
-  since-arrived r j cost q =
-      subst (Since d i b (r .dispatcher)) (add-zero n)
-      (since-moved (anArrival j cost) (r .dispatcher) (ap (λ (m : Moved (Unit {0})). m .dispatcher) q) 0 (rw (under-nobody i b)))
+  pub counting-arrived : (r : Arrived) (j : ℕ) (cost : Length) → arrivalSays r ≡ arrival d j cost → LedCounting i b start (r .dispatcher) n
+  counting-arrived r j cost e =
+      subst (LedCounting i b start (r .dispatcher)) (add-zero n)
+      (counting-moved (anArrival j cost) (r .dispatcher) (ap (λ (m : Moved (Unit {0})). m .dispatcher) e) 0 (rw (under-nobody i b)))
 
-  -- a tick counts one where it answers that server and a deadline no later than b
-  pub since-ticked : (r : Ticked) → tickSays r ≡ tick e
-      → Since d i b (r .dispatcher) (n + cond (isUnder i b (choiceOf (turnOf (r .answer)))) 1 0)
-  since-ticked r q =
-      since-moved aTick (r .dispatcher) (ap (λ (m : Moved Turn). m .dispatcher) q) _
-      (ap (λ (m : Moved Turn). cond (isUnder i b (choiceOf (m .answer))) 1 0) q)
+  -- a tick counts one where it answers server i and a deadline no later than b
+  pub counting-ticked : (r : Ticked) → tickSays r ≡ tick d
+      → LedCounting i b start (r .dispatcher) (n + cond (isUnder i b (choiceOf (turnOf (r .answer)))) 1 0)
+  counting-ticked r e =
+      counting-moved aTick (r .dispatcher) (ap (λ (m : Moved Turn). m .dispatcher) e) _
+      (ap (λ (m : Moved Turn). cond (isUnder i b (choiceOf (m .answer))) 1 0) e)

@@ -1,4 +1,4 @@
--- What a move makes of each server.
+-- What a move does to the dispatcher and to each server.
 use Prim.Native.Nat.{ℕ, _≤_, _<_}
 use borrow.Author.Tests.{eqb-true, eqb-false, ltb-true, ltb-false}
 use lib.Dec.{eqb, ltb}
@@ -15,11 +15,12 @@ use Rattle.clock.specs.declared.Length.{Length}
 use Rattle.clock.specs.Clock.{later, ticks}
 use Rattle.dispatcher.specs.declared.Dispatcher.{Dispatcher}
 use Rattle.dispatcher.specs.MoveLaws.{tick-ended, tick-idle, tick-ran}
-use Rattle.dispatcher.specs.Moves.{refusing, oneLater, tooMuchWork, arrival, idled, ran, tick}
+use Rattle.dispatcher.specs.Moves.{Moved, Turn, refusing, oneLater, tooMuchWork, arrival, idled, ran, tick}
 use Rattle.dispatcher.specs.Pick.{serverAt, picked}
 use Rattle.dispatcher.specs.PickLaws.{Earliest, NoneWorks, picked-earliest, picked-none}
 use Rattle.dispatcher.specs.Within.{Within}
-use Rattle.history.specs.Choice.{given}
+use Rattle.history.specs.Choice.{nobody, given, isFor}
+use Rattle.history.specs.ChoiceLaws.{for-nobody, for-other}
 use Rattle.moments.specs.Moments.{choiceOf}
 use Rattle.refusal.specs.Refusals.{gave}
 use Rattle.server.specs.MoveLaws.{arrived-waiting}
@@ -27,11 +28,19 @@ use Rattle.server.specs.Moves.{arrived, served}
 use Rattle.server.specs.Server.{blank}
 use Rattle.sizes.specs.Sizes.{clockEnd}
 
--- a tick is refused, or idle where none works, or given to the earliest
+-- What a tick does: it is refused; or idle, where no server works; or given to the server with the earliest deadline.
 pub data TickCase (d : Dispatcher) : Type 0 where
-  ended : tick d ≡ refusing d 10 → TickCase d
-  nobodys : NoneWorks d (d .count) → tick d ≡ record { answer = gave idled; dispatcher = oneLater d } → TickCase d
-  servers : (p : ℕ) → Earliest d (d .count) p → tick d ≡ ran d p → TickCase d
+  refusedTick : tick d .dispatcher ≡ d → choiceOf (tick d .answer) ≡ nobody → TickCase d
+  idleTick : NoneWorks d (d .count) → tick d .dispatcher .clock ≡ later (d .clock) (ticks 1) → choiceOf (tick d .answer) ≡ nobody
+      → TickCase d
+  givenTick : (p : ℕ) → Earliest d (d .count) p → tick d .dispatcher .clock ≡ later (d .clock) (ticks 1)
+      → choiceOf (tick d .answer) ≡ given p (serverAt d p .deadline) → TickCase d
+
+-- What it does to server i: it leaves it as it is, or it serves it.
+pub data TickServer (d : Dispatcher) (i : ℕ) : Type 0 where
+  leaves : serverAt (tick d .dispatcher) i ≡ serverAt d i → isFor i (choiceOf (tick d .answer)) ≡ false → TickServer d i
+  serves : Earliest d (d .count) i → serverAt (tick d .dispatcher) i ≡ served (serverAt d i)
+      → choiceOf (tick d .answer) ≡ given i (serverAt d i .deadline) → TickServer d i
 
 module _ {d : Dispatcher} (ok : Within d) where
   here : (i : ℕ) → i < d .count → i < length (d .servers)
@@ -64,36 +73,69 @@ module _ {d : Dispatcher} (ok : Within d) where
       rw e (omega (arith, arrived-waiting (serverAt d i) (d .clock) cost)))
       (arrival-server j cost i)
 
-  pub tick-cases : TickCase d
-  tick-cases = go (eqb (d .clock .tick) clockEnd) refl (ltb (picked d) (d .count)) refl
+  -- A tick by its definition.
+  data Way : Type 0 where
+    byRefusal : tick d ≡ refusing d 10 → Way
+    byNobody : NoneWorks d (d .count) → tick d ≡ record { answer = gave idled; dispatcher = oneLater d } → Way
+    byServer : (p : ℕ) → Earliest d (d .count) p → tick d ≡ ran d p → Way
+
+  way : Way
+  way = go (eqb (d .clock .tick) clockEnd) refl (ltb (picked d) (d .count)) refl
     where
-      go : (e : Bool) → eqb (d .clock .tick) clockEnd ≡ e → (p : Bool) → ltb (picked d) (d .count) ≡ p
-          → TickCase d
-      go true e p q = ended (tick-ended d (eqb-true _ _ e))
-      go false e true q =
-          servers (picked d) (picked-earliest d (ltb-true _ _ q)) (tick-ran d (eqb-false _ _ e) (ltb-true _ _ q))
-      go false e false q = nobodys (picked-none d (ltb-false _ _ q)) (tick-idle d (eqb-false _ _ e) (ltb-false _ _ q))
+      go : (e : Bool) → eqb (d .clock .tick) clockEnd ≡ e → (p : Bool) → ltb (picked d) (d .count) ≡ p → Way
+      go true e p q = byRefusal (tick-ended d (eqb-true _ _ e))
+      go false e true q = byServer (picked d) (picked-earliest d (ltb-true _ _ q)) (tick-ran d (eqb-false _ _ e) (ltb-true _ _ q))
+      go false e false q = byNobody (picked-none d (ltb-false _ _ q)) (tick-idle d (eqb-false _ _ e) (ltb-false _ _ q))
 
-  -- a server that runs is served, and no other changes
-  module _ (p : ℕ) (b : p < d .count) where
-    pub ran-own : serverAt (ran d p .dispatcher) p ≡ served (serverAt d p)
-    unfolding ran
-    ran-own = getD-set-same (d .servers) p (served (serverAt d p)) blank (here p b)
+  clock-by : {m : Moved Turn} → tick d ≡ m → tick d .dispatcher .clock ≡ m .dispatcher .clock
+  clock-by e = ap (λ (m : Moved Turn). m .dispatcher .clock) e
 
-    pub ran-other : (i : ℕ) → (i ≡ p → ⊥) → serverAt (ran d p .dispatcher) i ≡ serverAt d i
-    unfolding ran
-    ran-other i q = getD-set-other (d .servers) p i (served (serverAt d p)) blank q
+  choice-by : {m : Moved Turn} → tick d ≡ m → choiceOf (tick d .answer) ≡ choiceOf (m .answer)
+  choice-by e = ap (λ (m : Moved Turn). choiceOf (m .answer)) e
 
--- its clock moves on by one, and the count of servers stays
-pub ran-count : (d : Dispatcher) (p : ℕ) → ran d p .dispatcher .count ≡ d .count
-unfolding ran
-ran-count d p = refl
+  server-by : {m : Moved Turn} → tick d ≡ m → (i : ℕ) → serverAt (tick d .dispatcher) i ≡ serverAt (m .dispatcher) i
+  server-by e i = ap (λ (m : Moved Turn). serverAt (m .dispatcher) i) e
 
-pub ran-clock : (d : Dispatcher) (p : ℕ) → ran d p .dispatcher .clock ≡ later (d .clock) (ticks 1)
-unfolding ran
-ran-clock d p = refl
+  pub tick-cases : TickCase d
+  unfolding ran
+  tick-cases = go way
+    where
+      go : Way → TickCase d
+      go (byRefusal e) = refusedTick (ap (λ (m : Moved Turn). m .dispatcher) e) (choice-by e)
+      go (byNobody idle e) = idleTick idle (clock-by e) (choice-by e)
+      go (byServer p first e) = givenTick p first (clock-by e) (choice-by e)
 
--- and its tick is given to that server under the deadline that it had
-pub ran-choice : (d : Dispatcher) (p : ℕ) → choiceOf (ran d p .answer) ≡ given p (serverAt d p .deadline)
-unfolding ran
-ran-choice d p = refl
+  pub tick-server : (i : ℕ) → TickServer d i
+  unfolding ran
+  tick-server i = go way
+    where
+      at : (p : ℕ) → Earliest d (d .count) p → tick d ≡ ran d p → Dec (i ≡ p) → TickServer d i
+      at p first e (no q) =
+          leaves (server-by e i ∙ getD-set-other (d .servers) p i (served (serverAt d p)) blank q)
+          (ap (isFor i) (choice-by e) ∙ for-other i p (serverAt d p .deadline) q)
+      at p first e (yes q) =
+          subst⁻¹ (TickServer d) q
+          (serves first (server-by e p ∙ getD-set-same (d .servers) p (served (serverAt d p)) blank (here p (first .among))) (choice-by e))
+
+      go : Way → TickServer d i
+      go (byRefusal e) = leaves (server-by e i) (ap (isFor i) (choice-by e) ∙ for-nobody i)
+      go (byNobody idle e) = leaves (server-by e i) (ap (isFor i) (choice-by e) ∙ for-nobody i)
+      go (byServer p first e) = at p first e (ℕ-discrete i p)
+
+  -- it leaves the count of servers, and turns no clock back
+  pub tick-count : tick d .dispatcher .count ≡ d .count
+  unfolding ran
+  tick-count = go way
+    where
+      go : Way → tick d .dispatcher .count ≡ d .count
+      go (byRefusal e) = ap (λ (m : Moved Turn). m .dispatcher .count) e
+      go (byNobody idle e) = ap (λ (m : Moved Turn). m .dispatcher .count) e
+      go (byServer p first e) = ap (λ (m : Moved Turn). m .dispatcher .count) e
+
+  pub tick-clock : d .clock .tick ≤ tick d .dispatcher .clock .tick
+  tick-clock = go tick-cases
+    where
+      go : TickCase d → d .clock .tick ≤ tick d .dispatcher .clock .tick
+      go (refusedTick e c) = rw e (omega arith)
+      go (idleTick none e c) = rw e (omega arith)
+      go (givenTick p first e c) = rw e (omega arith)

@@ -1,5 +1,5 @@
 -- The run of a work is a course of live moves: at each moment its arrivals, and then a tick.
-use Prim.Native.Nat.{ℕ, zero, suc, _+_, _≤_, _<_}
+use Prim.Native.Nat.{ℕ, zero, suc, _+_}
 use lib.Dec.{eqb}
 use mathlib.Core.Bool.{Bool, true, false, cond}
 use mathlib.Core.List.{List, [], _∷_, _++_, append-nil}
@@ -12,7 +12,7 @@ use Rattle.dispatcher.specs.declared.Dispatcher.{Dispatcher}
 use Rattle.dispatcher.specs.Moves.{arrival, tick}
 use Rattle.moments.specs.Moments.{taken, atMoment, ready, turn, choiceOf, history}
 use Rattle.workfile.specs.Work.{Work}
-use Rattle.demand_3.specs.Course.{Move, anArrival, aTick, moved, after, isUnder, got}
+use Rattle.demand_3.specs.Course.{Move, anArrival, aTick, after, isUnder, got}
 use Rattle.demand_3.specs.CourseLaws.{under-nobody, after-both, got-both}
 
 module _ (w : Work) where

@@ -1,0 +1,41 @@
+-- Demand 3 for the trace of a work's run, segment by segment: of the whole trace, and of what a lent trace list holds of it.
+use Prim.Native.Nat.{ℕ, _*_, _≤_, _<_}
+use mathlib.Core.List.{List}
+use Rattle.clock.specs.declared.Moment.{Moment}
+use Rattle.clock.specs.Clock.{moment, until}
+use Rattle.counting.specs.Sum.{sum}
+use Rattle.moments.specs.Moments.{history}
+use Rattle.trace.specs.declared.Segment.{Segment}
+use Rattle.trace.specs.SegmentLaws.{Every}
+use Rattle.trace.specs.Ticks.{endOf, ticksOf, added}
+use Rattle.trace.specs.Trace.{trace}
+use Rattle.trace.specs.Written.{fitting, segmentIn}
+use Rattle.workfile.specs.Work.{Work}
+use Rattle.demand_3.specs.Course.{isUnder}
+use Rattle.demand_3.specs.Files.{NoWorkAt}
+
+-- a segment, and so each of its ticks, ends no later than the deadline that it was given under
+abbrev pub InTime : Segment → Type 0
+InTime s = endOf s .tick ≤ s .deadline .tick
+
+module _ (w : Work) where
+  -- the ticks of a segment at moment a or later, where it is server i's under a deadline no later than b, else none
+  abbrev pub gotIn : (i a : ℕ) → Moment → Segment → ℕ
+  gotIn i a b = ticksOf (isUnder i b) (moment a)
+
+  -- so many ticks of server i, times its period, "are at most (b minus a) times its budget"
+  abbrev pub WithinBandwidth : (i a : ℕ) → Moment → ℕ → Type 0
+  WithinBandwidth i a b got =
+      got * w .table .booking i .period .ticks ≤ until (moment a) b .ticks * w .table .booking i .budget .ticks
+
+  -- the whole trace
+  pub record TraceDemand3 : Type 0 where
+    pub in-time : Every InTime (trace (history w) (w .horizon .tick))
+    pub bandwidth : (i a : ℕ) → i < w .table .count → NoWorkAt w i a → (b : Moment)
+        → WithinBandwidth i a b (added (gotIn i a b) (trace (history w) (w .horizon .tick)))
+
+  -- the trace list after a run that answers so many segments: of as many as it holds
+  pub record ListDemand3 (segments : ℕ) (list : List ℕ) : Type 0 where
+    pub in-time : (k : ℕ) → k < fitting segments list → InTime (segmentIn list k)
+    pub bandwidth : (i a : ℕ) → i < w .table .count → NoWorkAt w i a → (b : Moment)
+        → WithinBandwidth i a b (sum (fitting segments list) (λ k. gotIn i a b (segmentIn list k)))
