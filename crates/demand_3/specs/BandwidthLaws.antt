@@ -6,7 +6,7 @@ use borrow.Author.Tests.{leb-true, leb-false, eqb-false}
 use lib.Dec.{leb}
 use mathlib.Core.Bool.{Bool, true, false, cond}
 use mathlib.Core.List.{List, [], _∷_}
-use mathlib.Core.Logic.{_⊎_, inl, inr}
+use mathlib.Core.Logic.{inl}
 use mathlib.Core.Path.{_≡_, refl, sym, ap}
 use native.Mathlib.Nat.{le-of-mul-le-mul-right, le-trans, mul-le-mul-right}
 use native.Mathlib.Omega.{arith}
@@ -23,14 +23,14 @@ use Rattle.dispatcher.specs.Pick.{serverAt}
 use Rattle.dispatcher.specs.PickLaws.{Earliest}
 use Rattle.moments.specs.MomentLaws.{arrival-keeps}
 use Rattle.moments.specs.Moments.{choiceOf}
-use Rattle.server.specs.Moves.{arrived, served}
+use Rattle.server.specs.Moves.{served}
 use Rattle.server.specs.Potential.{potential}
 use Rattle.server.specs.PotentialLaws.{Booked, arrived-potential, later-potential, served-potential, served-beyond, rests-potential}
 use Rattle.server.specs.RangeLaws.{busy-charged}
 use Rattle.server.specs.Server.{idle}
 use Rattle.demand_3.specs.Course.{Move, anArrival, aTick, isUnder, got}
 use Rattle.demand_3.specs.CourseLaws.{under-away, under-nobody, under-own}
-use Rattle.demand_3.specs.MovedLaws.{TickServer, leaves, serves, arrival-server, tick-server, tick-clock}
+use Rattle.demand_3.specs.MovedLaws.{ArrivalServer, passes, brings, TickServer, leaves, serves, arrival-server, tick-server, tick-clock}
 use Rattle.demand_3.specs.StandingLaws.{Standing, standing-booked, arrival-standing, tick-standing}
 
 -- what server i of a dispatcher can still get under deadlines no later than b
@@ -43,12 +43,9 @@ module _ {H : Length} {t : Table} (admitted : Admitted H t) (b : Moment) where
       → canGet H b (arrival d j cost .dispatcher) i ≤ canGet H b d i
   arrival-pays {d} ok j cost i known = go (arrival-server (ok .within) j cost i)
     where
-      e : Dispatcher
-      e = arrival d j cost .dispatcher
-
-      go : (serverAt e i ≡ serverAt d i) ⊎ (serverAt e i ≡ arrived (serverAt d i) (d .clock) cost) → canGet H b e i ≤ canGet H b d i
-      go (inl q) = rw (arrival-keeps d j cost .0, q) (omega arith)
-      go (inr q) = rw (arrival-keeps d j cost .0, q) (arrived-potential H (standing-booked admitted ok i known) (d .clock) b cost)
+      go : ArrivalServer d j cost i → canGet H b (arrival d j cost .dispatcher) i ≤ canGet H b d i
+      go (passes e) = rw (arrival-keeps d j cost .0, e) (omega arith)
+      go (brings e) = rw (arrival-keeps d j cost .0, e) (arrived-potential H (standing-booked admitted ok i known) (d .clock) b cost)
 
   -- nor does a tick, and one that the server gets under a deadline no later than b lowers it by the frame
   pub tick-pays : {d : Dispatcher} → Standing t d → (i : ℕ) → i < t .count

@@ -21,8 +21,9 @@ use Rattle.demand_3.specs.Course.{Move, after, got}
 
 -- Of a table and its dispatcher at the start.
 module _ (start : Dispatcher) (t : Table) where
-  -- Moves have led to where server i has no work waiting. The clock there shows the moment a, be it before, among or after the arrivals
-  -- of a. This bounds the ticks that the server gets by further moves under deadlines no later than b. (None where b is before a.)
+  -- Moves have led to where server i has no work waiting; the clock there shows the moment a, be it before, among or after the arrivals of
+  -- a. The ticks that it gets by any further moves under deadlines no later than b, times its period, are at most (b minus a) times its
+  -- budget. (So none where b is before a.)
   abbrev pub Bandwidth : Type 0
   Bandwidth =
       (moves : List Move) (i : ℕ) → i < t .count → idle (serverAt (after start moves) i) ≡ true

@@ -5,7 +5,6 @@ use lib.Dec.{eqb, ltb}
 use lib.ListN.{length}
 use lib.Seq.{getD-set-same, getD-set-other}
 use mathlib.Core.Bool.{Bool, true, false}
-use mathlib.Core.Logic.{_⊎_, inl, inr, ⊎-elim}
 use mathlib.Core.Path.{_≡_, refl, _∙_, ap, subst⁻¹}
 use native.Mathlib.Decide.{ℕ-discrete}
 use native.Mathlib.Omega.{arith}
@@ -28,6 +27,11 @@ use Rattle.server.specs.Moves.{arrived, served}
 use Rattle.server.specs.Server.{blank}
 use Rattle.sizes.specs.Sizes.{clockEnd}
 
+-- What an arrival for server j does to server i: it passes it by, or it brings it work.
+pub data ArrivalServer (d : Dispatcher) (j : ℕ) (cost : Length) (i : ℕ) : Type 0 where
+  passes : serverAt (arrival d j cost .dispatcher) i ≡ serverAt d i → ArrivalServer d j cost i
+  brings : serverAt (arrival d j cost .dispatcher) i ≡ arrived (serverAt d i) (d .clock) cost → ArrivalServer d j cost i
+
 -- What a tick does: it is refused; or idle, where no server works; or given to the server with the earliest deadline.
 pub data TickCase (d : Dispatcher) : Type 0 where
   refusedTick : tick d .dispatcher ≡ d → choiceOf (tick d .answer) ≡ nobody → TickCase d
@@ -46,32 +50,27 @@ module _ {d : Dispatcher} (ok : Within d) where
   here : (i : ℕ) → i < d .count → i < length (d .servers)
   here i b = omega (arith, ok .places, ok .count)
 
-  -- an arrival leaves a server as it is, or it is this server's work
-  pub arrival-server : (j : ℕ) (cost : Length) (i : ℕ)
-      → (serverAt (arrival d j cost .dispatcher) i ≡ serverAt d i)
-      ⊎ (serverAt (arrival d j cost .dispatcher) i ≡ arrived (serverAt d i) (d .clock) cost)
+  pub arrival-server : (j : ℕ) (cost : Length) (i : ℕ) → ArrivalServer d j cost i
   unfolding arrival
   arrival-server j cost i = go (faulty (d .count) j cost) refl (tooMuchWork d j cost) refl (ℕ-discrete i j)
     where
-      go : (f : Bool) → faulty (d .count) j cost ≡ f → (o : Bool) → tooMuchWork d j cost ≡ o → Dec (i ≡ j)
-          → (serverAt (arrival d j cost .dispatcher) i ≡ serverAt d i)
-          ⊎ (serverAt (arrival d j cost .dispatcher) i ≡ arrived (serverAt d i) (d .clock) cost)
-      go true f o e q = inl (rw f)
-      go false f true e q = inl (rw (f, e))
+      go : (f : Bool) → faulty (d .count) j cost ≡ f → (o : Bool) → tooMuchWork d j cost ≡ o → Dec (i ≡ j) → ArrivalServer d j cost i
+      go true f o e q = passes (rw f)
+      go false f true e q = passes (rw (f, e))
       go false f false e (yes q) =
-          inr
+          brings
           (rw (f, e, q)
           (getD-set-same (d .servers) j (arrived (serverAt d j) (d .clock) cost) blank (here j (sound (d .count) j cost f .known))))
-      go false f false e (no q) = inl (rw (f, e) (getD-set-other (d .servers) j i (arrived (serverAt d j) (d .clock) cost) blank q))
+      go false f false e (no q) =
+          passes (rw (f, e) (getD-set-other (d .servers) j i (arrived (serverAt d j) (d .clock) cost) blank q))
 
-  -- so it takes no work away
+  -- it takes no work away
   pub arrival-waiting : (j : ℕ) (cost : Length) (i : ℕ) → serverAt d i .waiting .ticks ≤ serverAt (arrival d j cost .dispatcher) i .waiting .ticks
-  arrival-waiting j cost i =
-      ⊎-elim
-      (λ (e : serverAt (arrival d j cost .dispatcher) i ≡ serverAt d i). rw e (omega arith))
-      (λ (e : serverAt (arrival d j cost .dispatcher) i ≡ arrived (serverAt d i) (d .clock) cost).
-      rw e (omega (arith, arrived-waiting (serverAt d i) (d .clock) cost)))
-      (arrival-server j cost i)
+  arrival-waiting j cost i = go (arrival-server j cost i)
+    where
+      go : ArrivalServer d j cost i → serverAt d i .waiting .ticks ≤ serverAt (arrival d j cost .dispatcher) i .waiting .ticks
+      go (passes e) = rw e (omega arith)
+      go (brings e) = rw e (omega (arith, arrived-waiting (serverAt d i) (d .clock) cost))
 
   -- A tick by its definition.
   data Way : Type 0 where

@@ -1,7 +1,6 @@
 -- What every move keeps: a dispatcher stays within its ranges, with the bookings of its table.
 use Prim.Native.Nat.{ℕ, _≤_, _<_}
 use mathlib.Core.List.{List, [], _∷_}
-use mathlib.Core.Logic.{_⊎_, inl, inr}
 use mathlib.Core.Path.{_≡_, refl, _∙_, ap, subst⁻¹}
 use native.Mathlib.Omega.{arith}
 use Rattle.booking.specs.Admission.{Table}
@@ -17,13 +16,12 @@ use Rattle.dispatcher.specs.StartLaws.{start-server, admitted-within}
 use Rattle.dispatcher.specs.Within.{Within}
 use Rattle.moments.specs.MomentLaws.{arrival-keeps}
 use Rattle.server.specs.MoveLaws.{arrived-booking, served-booking}
-use Rattle.server.specs.Moves.{arrived}
 use Rattle.server.specs.Potential.{HasBudgetOrRests}
 use Rattle.server.specs.PotentialLaws.{Booked, ranged-rests}
 use Rattle.server.specs.Server.{bookingOf}
 use Rattle.sizes.specs.Sizes.{mostFrame, mostServers}
 use Rattle.demand_3.specs.Course.{Move, anArrival, aTick, after}
-use Rattle.demand_3.specs.MovedLaws.{TickServer, leaves, serves, arrival-server, tick-server, tick-count}
+use Rattle.demand_3.specs.MovedLaws.{ArrivalServer, passes, brings, TickServer, leaves, serves, arrival-server, tick-server, tick-count}
 
 pub record Standing (t : Table) (d : Dispatcher) : Type 0 where
   pub within : Within d
@@ -39,6 +37,7 @@ module _ {t : Table} where
         small = ok .within .servers i (omega (arith, ok .count)) .remaining;
       }
 
+  -- it has budget or rests
   pub standing-rests : {d : Dispatcher} → Standing t d → (i : ℕ) → i < t .count → HasBudgetOrRests (d .clock) (serverAt d i)
   standing-rests ok i b = ranged-rests (ok .within .servers i (omega (arith, ok .count)))
 
@@ -51,12 +50,9 @@ module _ {t : Table} where
         bookings = λ i b. go i b (arrival-server (ok .within) j cost i);
       }
     where
-      go : (i : ℕ) → i < t .count
-          → (serverAt (arrival d j cost .dispatcher) i ≡ serverAt d i)
-          ⊎ (serverAt (arrival d j cost .dispatcher) i ≡ arrived (serverAt d i) (d .clock) cost)
-          → bookingOf (serverAt (arrival d j cost .dispatcher) i) ≡ t .booking i
-      go i b (inl e) = ap bookingOf e ∙ ok .bookings i b
-      go i b (inr e) = ap bookingOf e ∙ arrived-booking (serverAt d i) (d .clock) cost ∙ ok .bookings i b
+      go : (i : ℕ) → i < t .count → ArrivalServer d j cost i → bookingOf (serverAt (arrival d j cost .dispatcher) i) ≡ t .booking i
+      go i b (passes e) = ap bookingOf e ∙ ok .bookings i b
+      go i b (brings e) = ap bookingOf e ∙ arrived-booking (serverAt d i) (d .clock) cost ∙ ok .bookings i b
 
   -- a tick
   pub tick-standing : {d : Dispatcher} → Standing t d → Standing t (tick d .dispatcher)

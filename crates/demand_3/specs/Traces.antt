@@ -1,4 +1,5 @@
--- Demand 3 for the trace of a work's run, segment by segment: of the whole trace, and of what a lent trace list holds of it.
+-- Demand 3 for the trace of a work's run, segment by segment: of the whole trace, and of what a lent trace list holds of it. `TracesLaws`
+-- proves the first of every work that satisfies demand 3 moment by moment, and the second of every call of `run` that is accepted.
 use Prim.Native.Nat.{ℕ, _*_, _≤_, _<_}
 use mathlib.Core.List.{List}
 use Rattle.clock.specs.declared.Moment.{Moment}
