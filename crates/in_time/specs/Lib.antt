@@ -1,0 +1,3 @@
+pub mod Live
+pub mod LiveLaws
+pub mod Segments

@@ -1,0 +1,39 @@
+// What is left to the deadlines, as lines of text.
+use clock::Length;
+use clock::Moment;
+use libc::STDOUT_FILENO;
+
+// A tick that a server got in the live play.
+pub(crate) fn tick(server: usize, deadline: Moment, left: Length) {
+    words(b"live: ");
+    under(server as u64, deadline.tick, left);
+}
+
+// A segment of the run's trace, by its number.
+pub(crate) fn segment(k: usize, server: u64, deadline: u64, left: Length) {
+    words(b"run: segment ");
+    number(k as u64);
+    words(b" of ");
+    under(server, deadline, left);
+}
+
+// The rest of a line, the same for both.
+fn under(server: u64, deadline: u64, left: Length) {
+    words(b"server ");
+    number(server);
+    words(b" under ");
+    number(deadline);
+    words(b", ");
+    number(left.ticks);
+    words(b" left\n");
+}
+
+// A text as it stands.
+fn words(text: &[u8]) {
+    io::write_all(STDOUT_FILENO, text);
+}
+
+// A number, in decimal.
+fn number(n: u64) {
+    io::print_decimal(STDOUT_FILENO, n);
+}
