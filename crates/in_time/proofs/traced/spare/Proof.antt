@@ -1,36 +1,35 @@
 -- `in_time::traced::spare` is safe: the end of a segment in time is no later than its deadline, which 64 bits hold.
 use Prim.Native.Nat.{_+_, _*_}
-use borrow.Author.Needs.{needs}
 use native.Mathlib.Omega.{arith}
 use Rattle.in_time.proofs.traced.spare.Statement.{statement}
 use Rattle.in_time.proofs.traced.spare.Tie as tie
 
 mul-at : tie.Need-mul-at
-mul-at c = search needs
+mul-at c = omega arith
 
 add-deadline : tie.Need-add-deadline
-add-deadline c = search needs
+add-deadline c = omega arith
 
 mul-deadline : tie.Need-mul-deadline
-mul-deadline c = search needs
+mul-deadline c = omega arith
 
 shared-slice-read-deadline : tie.Need-shared-slice-read-deadline
-shared-slice-read-deadline c = search needs
+shared-slice-read-deadline c = omega arith
 
 mul-end : tie.Need-mul-end
-mul-end c = search needs
+mul-end c = omega arith
 
 shared-slice-read-end : tie.Need-shared-slice-read-end
-shared-slice-read-end c = search needs
+shared-slice-read-end c = omega arith
 
 add-end : tie.Need-add-end
-add-end c = search needs
+add-end c = omega arith
 
 mul-end-2 : tie.Need-mul-end-2
-mul-end-2 c = search needs
+mul-end-2 c = omega arith
 
 shared-slice-read-end-2 : tie.Need-shared-slice-read-end-2
-shared-slice-read-end-2 c = search needs
+shared-slice-read-end-2 c = omega arith
 
 add-end-2 : tie.Need-add-end-2
 add-end-2 c =
@@ -41,7 +40,7 @@ sub-t9 : tie.Need-sub-t9
 sub-t9 c = omega (arith, c .before .before .before .pre .1)
 
 returns : tie.Need-returns
-returns c = search needs
+returns c = tt
 
 pub spare-spec : {M : Type 1} → statement M
 spare-spec =
