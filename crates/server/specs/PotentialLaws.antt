@@ -36,7 +36,7 @@ renews-later s t u h e =
     let nearer : s .deadline .tick - u .tick ≤ s .deadline .tick - t .tick = omega arith in
     full-renews s u (le-trans (mul-le-mul-right (s .budget .ticks) nearer) (renews-full s t e))
 
--- within the ranges no server is held back yet: one without budget is idle
+-- within the ranges a server without budget is idle, so that none is held back
 pub ranged-rests : {t : Moment} {s : Server} → Ranged t s → HasBudgetOrRests t s
 ranged-rests r = ⊎-elim inl (λ none. inr (inl (eq-eqb _ _ (none .2)))) (r .charged)
 
