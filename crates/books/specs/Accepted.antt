@@ -9,12 +9,12 @@ use mathlib.Core.Path.{_≡_, ap}
 use native.Mathlib.Decide.{decLt}
 use native.Mathlib.Omega.{arith}
 use Rattle.finish.specs.Finish.{workOf}
+use Rattle.judgement.specs.FitLaws.{Fit, judged-fit, judged-placed}
+use Rattle.judgement.specs.Judgement.{judged}
+use Rattle.judgement.specs.JudgementLaws.{Placed}
 use Rattle.refusal.specs.Refusals.{accepted}
 use Rattle.sizes.specs.Sizes.{arrivalBytes, serverBytes}
 use Rattle.workfile.specs.declared.Header.{Header}
-use Rattle.workfile.specs.FitLaws.{Fit, judged-fit, judged-placed}
-use Rattle.workfile.specs.Judgement.{judged}
-use Rattle.workfile.specs.JudgementLaws.{Placed}
 use Rattle.workfile.specs.Layout.{arrivalAt, bookingAt, header}
 use Rattle.workfile.specs.Work.{Work, work}
 use Rattle.books.specs.Jobs.{work-to}

@@ -11,9 +11,9 @@ use Rattle.finish.specs.Finish.{workOf, at, servedBy, finish, finishList}
 use Rattle.finish.specs.FinishLaws.{finish-after}
 use Rattle.finish.specs.ListLaws.{list-shows, shown-finished}
 use Rattle.history.specs.Choice.{served}
+use Rattle.judgement.specs.FitLaws.{Fit}
 use Rattle.moments.specs.Moments.{history, waitingAt}
 use Rattle.summary.specs.Summary.{finishes}
-use Rattle.workfile.specs.FitLaws.{Fit}
 use Rattle.workfile.specs.Work.{Work}
 use Rattle.books.specs.Before.{Before, stands-before, before-is}
 use Rattle.books.specs.Jobs.{work-none, work-other}

@@ -6,8 +6,8 @@ use native.Mathlib.Omega.{arith}
 use Rattle.finish.specs.Finish.{workOf, at, finish}
 use Rattle.finish.specs.FinishLaws.{finish-after}
 use Rattle.history.specs.Choice.{served}
+use Rattle.judgement.specs.FitLaws.{Fit}
 use Rattle.moments.specs.Moments.{history}
-use Rattle.workfile.specs.FitLaws.{Fit}
 use Rattle.workfile.specs.Work.{Work}
 use Rattle.books.specs.Before.{Before, stands-before}
 use Rattle.books.specs.Jobs.{work-own, work-to}

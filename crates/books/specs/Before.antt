@@ -11,11 +11,11 @@ use Rattle.dispatcher.specs.declared.Dispatcher.{Dispatcher}
 use Rattle.dispatcher.specs.Moves.{arrival}
 use Rattle.dispatcher.specs.Pick.{serverAt, picked}
 use Rattle.dispatcher.specs.PickLaws.{Earliest, picked-earliest, picked-none}
+use Rattle.judgement.specs.FitLaws.{Fit, in-order-all}
 use Rattle.moments.specs.Moments.{taken, atMoment}
 use Rattle.moments.specs.MomentLaws.{taken-rest, at-keeps}
 use Rattle.server.specs.RangeLaws.{busy-charged}
 use Rattle.sizes.specs.Sizes.{clockEnd}
-use Rattle.workfile.specs.FitLaws.{Fit, in-order-all}
 use Rattle.workfile.specs.Work.{Work}
 use Rattle.books.specs.Events.{event-stands, idle-stands}
 use Rattle.books.specs.Stands.{Stands, stands-start, stands-within, stands-arrival}

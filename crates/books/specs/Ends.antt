@@ -15,13 +15,13 @@ use Rattle.counting.specs.Totals.{longest}
 use Rattle.finish.specs.Finish.{Finish, isOpen, at, firstServed, servedBy, finish, shown, finishList, workOf}
 use Rattle.finish.specs.FinishLaws.{finish-open}
 use Rattle.history.specs.ChoiceLaws.{served-start}
+use Rattle.judgement.specs.FitLaws.{Fit}
 use Rattle.moments.specs.Moments.{history}
 use Rattle.sizes.specs.Sizes.{mostServers, openJob}
 use Rattle.summary.specs.declared.Response.{Response}
 use Rattle.summary.specs.declared.Summary.{Summary}
 use Rattle.summary.specs.Summary.{blank, isJob, responseOf, finishedOf, responses}
 use Rattle.summary.specs.SummaryLaws.{withJob, finished-same, responses-same, finished-none, responses-none, finished-more, responses-more, finished-alike, responses-alike}
-use Rattle.workfile.specs.FitLaws.{Fit}
 use Rattle.workfile.specs.Work.{Work}
 use Rattle.books.specs.Jobs.{work-own}
 

@@ -15,6 +15,7 @@ use Rattle.dispatcher.specs.Within.{Within}
 use Rattle.finish.specs.Finish.{workOf}
 use Rattle.history.specs.Choice.{nobody, given, served}
 use Rattle.history.specs.ChoiceLaws.{served-own, served-other, for-nobody, for-other}
+use Rattle.judgement.specs.FitLaws.{Fit}
 use Rattle.moments.specs.Moments.{atMoment, ready, turn, history}
 use Rattle.moments.specs.OneGo.{laterBy, ranFor, servedFor}
 use Rattle.moments.specs.OneGoLaws.{Quiet, taken-none, at-ran, turn-ran, at-idle, turn-idle, served-waiting}
@@ -24,7 +25,6 @@ use Rattle.refusal.specs.Refusals.{gave}
 use Rattle.server.specs.declared.Server.{Server}
 use Rattle.server.specs.Server.{blank}
 use Rattle.sizes.specs.Sizes.{clockEnd}
-use Rattle.workfile.specs.FitLaws.{Fit}
 use Rattle.workfile.specs.Work.{Work}
 use Rattle.books.specs.Stands.{Stands, stands-within, stands-clock, stands-ready}
 

@@ -15,13 +15,13 @@ use Rattle.clock.specs.declared.Length.{Length}
 use Rattle.dispatcher.specs.declared.Dispatcher.{Dispatcher}
 use Rattle.dispatcher.specs.Pick.{serverAt}
 use Rattle.dispatcher.specs.PickLaws.{Earliest}
+use Rattle.judgement.specs.FitLaws.{Fit}
 use Rattle.moments.specs.OneGo.{servedFor}
 use Rattle.moments.specs.OneGoLaws.{served-budget}
 use Rattle.server.specs.declared.Server.{Server}
 use Rattle.sizes.specs.Sizes.{mostServers}
 use Rattle.summary.specs.declared.Summary.{Summary}
 use Rattle.summary.specs.Summary as summary
-use Rattle.workfile.specs.FitLaws.{Fit}
 use Rattle.workfile.specs.Work.{Work}
 use Rattle.books.specs.Budgets.{budgetsOn, currentOn, traceOn, interruptedOn, Further}
 use Rattle.books.specs.declared.Current.{Current}

@@ -8,10 +8,10 @@ use native.Mathlib.Omega.{arith}
 use Rattle.clock.specs.Clock.{lastTick, moment}
 use Rattle.clock.specs.declared.Moment.{Moment}
 use Rattle.dispatcher.specs.declared.Dispatcher.{Dispatcher}
+use Rattle.judgement.specs.FitLaws.{Fit}
 use Rattle.moments.specs.OneGo.{laterBy}
 use Rattle.sizes.specs.Sizes.{mostServers}
 use Rattle.summary.specs.declared.Summary.{Summary}
-use Rattle.workfile.specs.FitLaws.{Fit}
 use Rattle.workfile.specs.Work.{Work}
 use Rattle.books.specs.declared.Current.{Current}
 use Rattle.books.specs.Keys.{Keyed}

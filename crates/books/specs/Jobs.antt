@@ -11,8 +11,8 @@ use Rattle.finish.specs.Finish.{costFor, workOf, isOpen, at, servedBy, finish}
 use Rattle.finish.specs.FinishLaws.{finish-open, finish-stays, finish-now, finish-unserved}
 use Rattle.history.specs.Choice.{nobody, given, served}
 use Rattle.history.specs.ChoiceLaws.{served-own, served-other, for-nobody, for-other}
+use Rattle.judgement.specs.FitLaws.{Fit}
 use Rattle.moments.specs.Moments.{history}
-use Rattle.workfile.specs.FitLaws.{Fit}
 use Rattle.workfile.specs.Work.{Work}
 
 -- The work of one server, arrival by arrival.

@@ -10,12 +10,12 @@ use Rattle.clock.specs.Clock.{later, moment, ticks}
 use Rattle.dispatcher.specs.declared.Dispatcher.{Dispatcher}
 use Rattle.dispatcher.specs.Pick.{serverAt}
 use Rattle.dispatcher.specs.PickLaws.{Earliest}
+use Rattle.judgement.specs.FitLaws.{Fit}
 use Rattle.moments.specs.OneGo.{servedFor, ranFor}
 use Rattle.server.specs.declared.Server.{Server}
 use Rattle.server.specs.Moves.{postponed}
 use Rattle.sizes.specs.Sizes.{mostServers}
 use Rattle.summary.specs.declared.Summary.{Summary}
-use Rattle.workfile.specs.FitLaws.{Fit}
 use Rattle.workfile.specs.Work.{Work}
 use Rattle.books.specs.declared.Current.{Current}
 use Rattle.books.specs.Goes.{Jobs, Counts, Ended, ran-stands, ran-jobs, ran-counts-spent, ran-ended, ran-segmented}

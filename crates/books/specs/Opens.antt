@@ -8,8 +8,8 @@ use native.Mathlib.Decide.{decLt, ℕ-discrete}
 use native.Mathlib.Omega.{arith}
 use Rattle.dispatcher.specs.declared.Dispatcher.{Dispatcher}
 use Rattle.dispatcher.specs.Pick.{serverAt}
+use Rattle.judgement.specs.FitLaws.{Fit}
 use Rattle.sizes.specs.Sizes.{mostServers}
-use Rattle.workfile.specs.FitLaws.{Fit}
 use Rattle.workfile.specs.Work.{Work}
 use Rattle.books.specs.Accepted.{NextJob, next-job-here}
 use Rattle.books.specs.Goes.{Jobs}

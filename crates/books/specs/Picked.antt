@@ -13,6 +13,7 @@ use Rattle.dispatcher.specs.Pick.{serverAt}
 use Rattle.dispatcher.specs.PickLaws.{Earliest}
 use Rattle.dispatcher.specs.Within.{Within}
 use Rattle.finish.specs.Finish.{finish}
+use Rattle.judgement.specs.FitLaws.{Fit}
 use Rattle.moments.specs.Moments.{history}
 use Rattle.moments.specs.PostponedLaws.{postponed-le}
 use Rattle.server.specs.RangeLaws.{busy-charged}
@@ -21,7 +22,6 @@ use Rattle.sizes.specs.Sizes.{clockEnd, mostArrivals, mostServers}
 use Rattle.summary.specs.declared.Summary.{Summary}
 use Rattle.summary.specs.Summary as summary
 use Rattle.summary.specs.SummaryLaws.{finished-le, responses-total, totalOf}
-use Rattle.workfile.specs.FitLaws.{Fit}
 use Rattle.workfile.specs.Work.{Work}
 use Rattle.books.specs.Ends.{response-by, recordAt, recordsAt, finishes-length}
 use Rattle.books.specs.declared.Current.{Current}

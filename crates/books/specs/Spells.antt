@@ -8,11 +8,11 @@ use Rattle.clock.specs.Clock.{lastTick, moment}
 use Rattle.clock.specs.declared.Moment.{Moment}
 use Rattle.dispatcher.specs.declared.Dispatcher.{Dispatcher}
 use Rattle.dispatcher.specs.Pick.{serverAt}
+use Rattle.judgement.specs.FitLaws.{Fit}
 use Rattle.server.specs.declared.Server.{Server}
 use Rattle.sizes.specs.Sizes.{mostServers}
 use Rattle.summary.specs.declared.Summary.{Summary}
 use Rattle.summary.specs.Summary as summary
-use Rattle.workfile.specs.FitLaws.{Fit}
 use Rattle.workfile.specs.Work.{Work}
 use Rattle.books.specs.Budgets.{currentOn, traceOn, interruptedOn}
 use Rattle.books.specs.declared.Current.{Current}

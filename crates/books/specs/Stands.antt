@@ -24,6 +24,7 @@ use Rattle.dispatcher.specs.Within.{Within}
 use Rattle.finish.specs.Finish.{costFor, workOf}
 use Rattle.history.specs.Choice.{served}
 use Rattle.history.specs.ChoiceLaws.{served-start}
+use Rattle.judgement.specs.FitLaws.{Fit}
 use Rattle.moments.specs.Moments.{taken, atMoment, ready, history}
 use Rattle.moments.specs.MomentLaws.{taken-more, taken-rest, at-keeps, at-within, taken-within, taken-keeps}
 use Rattle.server.specs.declared.Server.{Server}
@@ -31,7 +32,6 @@ use Rattle.server.specs.MoveLaws.{arrived-waiting}
 use Rattle.server.specs.Moves.{arrived}
 use Rattle.server.specs.Server.{blank, fresh}
 use Rattle.sizes.specs.Sizes.{clockEnd, mostCost, mostServers, mostWaiting}
-use Rattle.workfile.specs.FitLaws.{Fit}
 use Rattle.workfile.specs.Work.{Work}
 use Rattle.books.specs.Jobs.{work-none, work-own, work-other}
 

@@ -11,9 +11,9 @@ use Rattle.dispatcher.specs.declared.Dispatcher.{Dispatcher}
 use Rattle.dispatcher.specs.Moves.{arrival}
 use Rattle.dispatcher.specs.Pick.{serverAt}
 use Rattle.dispatcher.specs.Within.{Within}
+use Rattle.judgement.specs.FitLaws.{Fit, in-order-all}
 use Rattle.server.specs.RangeLaws.{deadline-below}
 use Rattle.sizes.specs.Sizes.{clockEnd}
-use Rattle.workfile.specs.FitLaws.{Fit, in-order-all}
 use Rattle.workfile.specs.Work.{Work}
 use Rattle.books.specs.Accepted.{nextMoment, next-arrival, next-horizon}
 use Rattle.books.specs.Keys.{keyOf, Keyed, keyed-set}

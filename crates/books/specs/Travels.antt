@@ -18,6 +18,7 @@ use Rattle.dispatcher.specs.Pick.{serverAt}
 use Rattle.dispatcher.specs.PickLaws.{Earliest, NoneWorks}
 use Rattle.dispatcher.specs.Within.{Within}
 use Rattle.finish.specs.Finish.{isOpen, finishList}
+use Rattle.judgement.specs.FitLaws.{Fit, in-order-all}
 use Rattle.moments.specs.Moments.{atMoment}
 use Rattle.moments.specs.OneGo.{laterBy, ranFor, servedFor}
 use Rattle.moments.specs.OneGoLaws.{served-budget}
@@ -26,7 +27,6 @@ use Rattle.server.specs.Server.{blank}
 use Rattle.sizes.specs.Sizes.{mostServers}
 use Rattle.summary.specs.declared.Summary.{Summary}
 use Rattle.summary.specs.Summary as summary
-use Rattle.workfile.specs.FitLaws.{Fit, in-order-all}
 use Rattle.workfile.specs.Work.{Work}
 use Rattle.books.specs.Accepted.{nextMoment, next-arrival, next-horizon}
 use Rattle.books.specs.Budgets.{budgetsOn, ranBudgets, currentOn, traceOn, interruptedOn, Further, wins-picked}

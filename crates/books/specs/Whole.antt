@@ -12,6 +12,7 @@ use native.Mathlib.Omega.{arith}
 use Rattle.counting.specs.Places.{getD-places, places-same}
 use Rattle.dispatcher.specs.declared.Dispatcher.{Dispatcher}
 use Rattle.finish.specs.Finish.{isOpen, finish, finishList}
+use Rattle.judgement.specs.FitLaws.{Fit}
 use Rattle.moments.specs.Moments.{history, postponedBy}
 use Rattle.sizes.specs.Sizes.{mostServers}
 use Rattle.summary.specs.declared.Response.{Response}
@@ -20,7 +21,6 @@ use Rattle.summary.specs.Summary.{blank, arrivedOf, interruptedOf, finishes, su
 use Rattle.summary.specs.SummaryLaws.{finished-none, responses-none}
 use Rattle.trace.specs.Trace.{trace}
 use Rattle.trace.specs.Written.{written}
-use Rattle.workfile.specs.FitLaws.{Fit}
 use Rattle.workfile.specs.Work.{Work}
 use Rattle.books.specs.declared.Current.{Current}
 use Rattle.books.specs.Ends.{recordAt, recordsAt, filledAt, filled, Counted}

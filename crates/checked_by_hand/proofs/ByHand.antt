@@ -12,15 +12,15 @@ use Rattle.dispatcher.specs.Pick.{mayRun, picked}
 use Rattle.dispatcher.specs.Start.{atStart}
 use Rattle.finish.specs.Finish.{firstServed, servedBy, workOf}
 use Rattle.history.specs.Choice.{isFor, same, served}
+use Rattle.judgement.specs.Judgement as workfile
 use Rattle.moments.specs.Moments.{atMoment, history, postponedBy, ready, taken, turn, waitingAt}
 use Rattle.opening.specs.Opening.{judged}
-use Rattle.reader.specs.Word.{word}
 use Rattle.report.specs.DayReport.{dayReport, segmentLines, jobLine, serverLine}
 use Rattle.server.specs.Moves as server
 use Rattle.summary.specs.Summary.{arrivedOf, finishedOf, howMany, interruptedOf, responseIn, responses, responsesOf, summaryOf}
 use Rattle.text.specs.Line.{decimal, digitsUpTo, each}
 use Rattle.trace.specs.Trace.{begins, begun, lasting}
-use Rattle.workfile.specs.Judgement as workfile
+use Rattle.words.specs.Word.{word}
 use Rattle.workfile.specs.Layout.{arrivalAt, bookingAt, header}
 use Rattle.workfile.specs.Work.{work}
 use Rattle.checked_by_hand.specs.ByHand.{AllHold, checkedByHand}

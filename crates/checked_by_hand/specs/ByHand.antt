@@ -8,6 +8,7 @@ use Rattle.booking.specs.Admission.{shares}
 use Rattle.clock.specs.Clock.{moment, ticks}
 use Rattle.demand_3.specs.Files.{gotFrom}
 use Rattle.finish.specs.Finish.{Finish, isOpen, at}
+use Rattle.judgement.specs.Judgement as workfile
 use Rattle.moments.specs.Moments.{history}
 use Rattle.opening.specs.Opening.{listed, judged}
 use Rattle.refusal.specs.Refusals.{Said, refused, accepted}
@@ -20,7 +21,6 @@ use Rattle.summary.specs.Summary.{finishes, summaryOf}
 use Rattle.text.specs.Line as line
 use Rattle.trace.specs.declared.Segment.{Segment}
 use Rattle.trace.specs.Trace.{trace}
-use Rattle.workfile.specs.Judgement as workfile
 use Rattle.workfile.specs.Work.{work}
 
 pub data Example : Type 0 where

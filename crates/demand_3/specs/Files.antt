@@ -9,10 +9,10 @@ use Rattle.clock.specs.Clock.{moment, until}
 use Rattle.counting.specs.Count.{count}
 use Rattle.dispatcher.specs.Pick.{serverAt}
 use Rattle.history.specs.Choice.{given}
+use Rattle.judgement.specs.Judgement.{judged}
 use Rattle.moments.specs.Moments.{atMoment, ready, history}
 use Rattle.refusal.specs.Refusals.{accepted}
 use Rattle.server.specs.Server.{idle}
-use Rattle.workfile.specs.Judgement.{judged}
 use Rattle.workfile.specs.Work.{Work, work}
 use Rattle.demand_3.specs.Course.{isUnder}
 

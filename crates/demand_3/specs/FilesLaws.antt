@@ -19,11 +19,11 @@ use Rattle.dispatcher.specs.Start.{atStart}
 use Rattle.dispatcher.specs.Within.{Within}
 use Rattle.history.specs.Choice.{given}
 use Rattle.history.specs.ChoiceLaws.{nobody≢given, given-deadline}
+use Rattle.judgement.specs.FitLaws.{Fit, judged-fit}
 use Rattle.moments.specs.MomentLaws.{at-within, at-keeps, taken-keeps, taken-within}
 use Rattle.moments.specs.Moments.{taken, atMoment, ready, turn, choiceOf, history}
 use Rattle.refusal.specs.Refusals.{Said, refused, gave}
 use Rattle.server.specs.Server.{idle}
-use Rattle.workfile.specs.FitLaws.{Fit, judged-fit}
 use Rattle.workfile.specs.Work.{Work}
 use Rattle.demand_3.specs.Course.{after, isUnder}
 use Rattle.demand_3.specs.CourseLaws.{after-both}

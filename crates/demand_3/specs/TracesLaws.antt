@@ -10,6 +10,7 @@ use native.Mathlib.Omega.{arith}
 use Rattle.books.specs.AllFinished.{list-finished-idle}
 use Rattle.clock.specs.Clock.{moment}
 use Rattle.dispatcher.specs.Pick.{serverAt}
+use Rattle.judgement.specs.FitLaws.{judged-fit}
 use Rattle.moments.specs.Moments.{atMoment, history, waitingAt}
 use Rattle.refusal.specs.declared.Verdict.the-variants.{Accepted}
 use Rattle.run.specs.declared.Ran.{Ran}
@@ -22,7 +23,6 @@ use Rattle.trace.specs.TickLaws.{trace-counted}
 use Rattle.trace.specs.Trace.{trace}
 use Rattle.trace.specs.Written.{fitting, written}
 use Rattle.trace.specs.WrittenLaws.{written-length}
-use Rattle.workfile.specs.FitLaws.{judged-fit}
 use Rattle.workfile.specs.Work.{Work, work}
 use Rattle.demand_3.specs.Course.{isUnder}
 use Rattle.demand_3.specs.CourseLaws.{under-nobody}

@@ -10,9 +10,9 @@ use Rattle.dispatcher.specs.Moves.{tick, ran}
 use Rattle.dispatcher.specs.Pick.{picked}
 use Rattle.dispatcher.specs.Within.{Within}
 use Rattle.history.specs.Choice.{Choice, nobody, given}
+use Rattle.judgement.specs.FitLaws.{Fit}
 use Rattle.server.specs.RangeLaws.{deadline-below}
 use Rattle.sizes.specs.Sizes.{clockEnd, mostFrame, mostServers}
-use Rattle.workfile.specs.FitLaws.{Fit}
 use Rattle.workfile.specs.Work.{Work}
 use Rattle.moments.specs.MomentLaws.{at-within, taken-within}
 use Rattle.moments.specs.Moments.{ready, turn, choiceOf, history}

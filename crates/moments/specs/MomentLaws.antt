@@ -17,8 +17,8 @@ use Rattle.dispatcher.specs.Pick.{picked}
 use Rattle.dispatcher.specs.Start.{atStart}
 use Rattle.dispatcher.specs.StartLaws.{admitted-within}
 use Rattle.dispatcher.specs.Within.{Within}
+use Rattle.judgement.specs.FitLaws.{Fit}
 use Rattle.sizes.specs.Sizes.{clockEnd}
-use Rattle.workfile.specs.FitLaws.{Fit}
 use Rattle.workfile.specs.Work.{Work}
 use Rattle.moments.specs.Moments.{taken, atMoment}
 

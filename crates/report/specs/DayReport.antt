@@ -7,6 +7,7 @@ use Rattle.booking.specs.Admission.{shares}
 use Rattle.clock.specs.declared.Moment.{Moment}
 use Rattle.clock.specs.Clock.{moment, until}
 use Rattle.finish.specs.Finish.{Finish, isOpen, at}
+use Rattle.judgement.specs.Judgement.{judged}
 use Rattle.moments.specs.Moments.{history}
 use Rattle.refusal.specs.Refusals.{Said, refused, gave}
 use Rattle.sizes.specs.Sizes.{mostArrivals, mostShown}
@@ -17,7 +18,6 @@ use Rattle.summary.specs.Summary.{finishes, summaryOf}
 use Rattle.text.specs.Line.{Field, word, number, line, each}
 use Rattle.trace.specs.declared.Segment.{Segment}
 use Rattle.trace.specs.Trace.{trace}
-use Rattle.workfile.specs.Judgement.{judged}
 use Rattle.workfile.specs.Work.{Work, work}
 
 -- "A refused file prints one line, `refused`, number, place."

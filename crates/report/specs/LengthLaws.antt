@@ -8,6 +8,9 @@ use native.Mathlib.Omega.{arith}
 use Rattle.booking.specs.Admission.{shares}
 use Rattle.books.specs.Ends.{response-by}
 use Rattle.history.specs.Choice.{Choice, nobody, given}
+use Rattle.judgement.specs.FitLaws.{Fit, judged-fit}
+use Rattle.judgement.specs.Judgement.{judged}
+use Rattle.judgement.specs.RefusedLaws.{Listed, judged-listed}
 use Rattle.moments.specs.GivenLaws.{InRange, history-in-range}
 use Rattle.moments.specs.Moments.{history}
 use Rattle.refusal.specs.Refusals.{Said, refused, gave}
@@ -21,9 +24,6 @@ use Rattle.text.specs.PageLaws.{added-whole}
 use Rattle.trace.specs.declared.Segment.{Segment}
 use Rattle.trace.specs.SegmentLaws.{Every, every-take, begun-few, begun-every}
 use Rattle.trace.specs.Trace.{segmentsOf}
-use Rattle.workfile.specs.FitLaws.{Fit, judged-fit}
-use Rattle.workfile.specs.Judgement.{judged}
-use Rattle.workfile.specs.RefusedLaws.{Listed, judged-listed}
 use Rattle.workfile.specs.Work.{Work, work}
 use Rattle.report.specs.DayReport.{admittedLine, segmentLine, segmentLines, segmentsLine, jobLine, serverLine, acceptedReport, reportOf, dayReport}
 use Rattle.report.specs.LineLengthLaws.{refused-length, admitted-length, segment-length, segments-length, job-length, server-length}

@@ -6,6 +6,7 @@ use native.Mathlib.Nat.{mul-le-mul}
 use native.Mathlib.Omega.{arith}
 use Rattle.counting.specs.Totals.{longest}
 use Rattle.finish.specs.Finish.{Finish, isOpen, at}
+use Rattle.judgement.specs.FitLaws.{Fit}
 use Rattle.sizes.specs.Sizes.{clockEnd, mostArrivals, mostFrame, mostServers, mostShown}
 use Rattle.summary.specs.BoundLaws.{AtMost, Bounded}
 use Rattle.summary.specs.declared.Response.{Response}
@@ -15,7 +16,6 @@ use Rattle.summary.specs.Summary.{responseOf}
 use Rattle.text.specs.LengthLaws.{decimal-length, line-length}
 use Rattle.text.specs.Line.{word, number, bytesOf}
 use Rattle.trace.specs.declared.Segment.{Segment}
-use Rattle.workfile.specs.FitLaws.{Fit}
 use Rattle.workfile.specs.Work.{Work}
 use Rattle.report.specs.DayReport.{refusedLine, admittedLine, segmentLine, segmentsLine, jobWith, totalField, longestField, serverLine}
 

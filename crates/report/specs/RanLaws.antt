@@ -4,6 +4,7 @@ use lib.ListN.{length}
 use mathlib.Core.List.{List}
 use mathlib.Core.Path.{_≡_, sym, _∙_, ap}
 use Rattle.books.specs.Accepted.{judged-accepted}
+use Rattle.judgement.specs.Judgement.{judged}
 use Rattle.refusal.specs.declared.Refusal.{Refusal}
 use Rattle.refusal.specs.declared.Verdict.the-variants.{Accepted, Refused}
 use Rattle.refusal.specs.Refusals.{Said, accepted, numberOf, onPaper, placeOf}
@@ -11,7 +12,6 @@ use Rattle.run.specs.declared.Ran.{Ran}
 use Rattle.run.specs.Outcome.{Outcome, outcome, accepting, says}
 use Rattle.run.specs.OutcomeLaws.{outcome-verdict, ran-accepting}
 use Rattle.sizes.specs.Sizes.{mostArrivals, traceNumbers}
-use Rattle.workfile.specs.Judgement.{judged}
 use Rattle.workfile.specs.Work.{work}
 use Rattle.report.specs.DayReport.{refusedLine, acceptedReport, reportOf, dayReport}
 use Rattle.report.specs.Told.{Told, traceOf}

@@ -3,6 +3,7 @@ use Prim.Native.Nat.{ℕ}
 use lib.ListN.{length, replicate}
 use mathlib.Core.List.{List}
 use Rattle.finish.specs.Finish as finishes
+use Rattle.judgement.specs.Judgement.{judged}
 use Rattle.moments.specs.Moments.{history}
 use Rattle.refusal.specs.Refusals.{Said, refused, gave, accepted, onPaper}
 use Rattle.sizes.specs.Sizes.{mostServers}
@@ -10,7 +11,6 @@ use Rattle.summary.specs.declared.Summary.{Summary}
 use Rattle.summary.specs.Summary as summary
 use Rattle.trace.specs.Trace.{trace}
 use Rattle.trace.specs.Written.{written}
-use Rattle.workfile.specs.Judgement.{judged}
 use Rattle.workfile.specs.Work.{Work, work}
 use Rattle.run.specs.declared.Ran.{Ran}
 

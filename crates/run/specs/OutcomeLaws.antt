@@ -3,10 +3,10 @@ use Prim.Native.Nat.{ℕ}
 use lib.ListN.{length}
 use mathlib.Core.List.{List}
 use mathlib.Core.Path.{_≡_, refl, sym, _∙_, ap, ap₂}
+use Rattle.judgement.specs.Judgement.{judged}
 use Rattle.refusal.specs.declared.Verdict.the-variants.{Accepted}
 use Rattle.refusal.specs.Refusals.{Said, refused, gave, accepted, onPaper}
 use Rattle.summary.specs.declared.Summary.{Summary}
-use Rattle.workfile.specs.Judgement.{judged}
 use Rattle.workfile.specs.Work.{work}
 use Rattle.run.specs.declared.Ran.{Ran}
 use Rattle.run.specs.Outcome.{Outcome, accepting, refusing, outcomeOf, outcome, says}

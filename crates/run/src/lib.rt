@@ -16,10 +16,10 @@ mod tree;
 
 ghost use mathlib.Core.Path.{_≡_};
 ghost use lib.ListN.{length};
+ghost use Rattle.judgement.specs.Judgement.{judged};
 ghost use Rattle.refusal.specs.Refusals.{accepted};
-ghost use Rattle.run.specs.Outcome.{accepting, outcome, says};
-ghost use Rattle.workfile.specs.Judgement.{judged};
 ghost use Rattle.workfile.specs.Work.{work};
+ghost use Rattle.run.specs.Outcome.{accepting, outcome, says};
 use refusal::Verdict;
 use summary::Summary;
 
@@ -35,7 +35,7 @@ pub struct Ran {
 pub fn run(file: &[u8], list: &mut [u64], finishes: &mut [u32]) -> Ran
     ensures { λ r. ⌜ says r (now (list .exit)) (now (finishes .exit)) ≡ outcome (now (file .entry)) (now (list .entry)) (now (finishes .entry)) ⌝ }
 {
-    let verdict = workfile::judge(file, finishes.len());
+    let verdict = judgement::judge(file, finishes.len());
     match verdict {
         Verdict::Accepted => play(file, list, finishes),
         Verdict::Refused(why) => Ran {

@@ -5,8 +5,8 @@ use native.Mathlib.Omega.{arith}
 use Prim.Native.Nat.{ℕ}
 use Rattle.books.specs.Accepted.{judged-accepted, servers-read}
 use Rattle.books.specs.Ends.{filled}
+use Rattle.judgement.specs.FitLaws.{judged-fit}
 use Rattle.refusal.specs.Refusals.{accepted}
-use Rattle.workfile.specs.FitLaws.{judged-fit}
 use Rattle.run.specs.OutcomeLaws.{made}
 use Rattle.run.proofs.play.Statement.{statement}
 use Rattle.run.proofs.play.Tie as tie

@@ -21,13 +21,13 @@ use Rattle.books.specs.Whole.{list-whole, count-whole, finishes-whole, records-
 use Rattle.clock.specs.declared.Moment.{Moment}
 use Rattle.dispatcher.specs.Pick.{serverAt}
 use Rattle.finish.specs.Finish.{isOpen, finishList}
+use Rattle.judgement.specs.FitLaws.{Fit}
 use Rattle.moments.specs.Moments.{history}
 use Rattle.sizes.specs.Sizes.{clockEnd}
 use Rattle.summary.specs.Summary.{finishes}
 use Rattle.trace.specs.Trace.{trace}
 use Rattle.trace.specs.Written.{written}
 use Rattle.trace.specs.WrittenLaws.{written-length}
-use Rattle.workfile.specs.FitLaws.{Fit}
 use Rattle.workfile.specs.Work.{work}
 use Rattle.run.proofs.travel.travel.Statement.{statement}
 use Rattle.run.proofs.travel.travel.Tie as tie

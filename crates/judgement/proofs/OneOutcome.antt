@@ -1,0 +1,7 @@
+-- The promise of this crate allows one outcome: what is said on paper tells the verdict.
+use Rattle.outcome.specs.OneOutcome.{OneOutcome, both-are}
+use Rattle.refusal.specs.Told.{verdict-told}
+use Rattle.judgement.proofs.judge.Reads as judge
+
+pub judge-one : OneOutcome judge.Post
+judge-one l a x y at-x at-y p q = verdict-told x y (both-are p q)

@@ -1,0 +1,81 @@
+-- `judgement::judge` meets its promise: the tests for 1, 2 and 3 in that order, and what passes them is for the work.
+use borrow.Author.Needs.{needs}
+use lib.ListN.{length}
+use mathlib.Core.Bool.{false}
+use mathlib.Core.Path.{_≡_, sym, _∙_}
+use native.Mathlib.Omega.{arith}
+use Rattle.judgement.specs.Judgement.{lengthOutOfRange, sizesOutOfRange, layoutBroken}
+use Rattle.judgement.specs.JudgementLaws.{sized, narrow, laid, judged-length, judged-sizes, judged-layout, judged-work}
+use Rattle.judgement.proofs.judge.Statement.{statement}
+use Rattle.judgement.proofs.judge.Tie as tie
+
+is-length-out-of-range-requires : tie.Need-is-length-out-of-range-requires
+is-length-out-of-range-requires c κs = search needs
+
+returns : tie.Need-returns
+returns c = sym (judged-length _ _ (sym (c .before .is-length-out-of-range .ensures) ∙ c .if1 .taken))
+
+header-of-requires : tie.Need-header-of-requires
+header-of-requires c κs = search needs
+
+is-size-out-of-range-requires : tie.Need-is-size-out-of-range-requires
+is-size-out-of-range-requires c κs = search needs
+
+-- what each test lets through
+in-length : (c : tie.Else1) → lengthOutOfRange (length (c .before .before .before .args .file .now)) ≡ false
+in-length c = sym (c .before .is-length-out-of-range .ensures) ∙ c .if1 .left
+
+in-range : (c : tie.Else2) → sizesOutOfRange (c .before .before .header-of .result) ≡ false
+in-range c = sym (c .before .is-size-out-of-range .ensures) ∙ c .if2 .left
+
+in-place : (c : tie.Else3)
+    → layoutBroken (c .before .before .before .before .header-of .result)
+    (length (c .before .before .before .before .before .before .before .before .args .file .now))
+    ≡ false
+in-place c = sym (c .before .is-layout-broken .ensures) ∙ c .if3 .left
+
+returns-2 : tie.Need-returns-2
+returns-2 c =
+    sym
+    (judged-sizes _ _ (c .before .before .header-of .ensures) (in-length (c .before .before .before))
+    (sym (c .before .is-size-out-of-range .ensures) ∙ c .if2 .taken))
+
+is-layout-broken-requires : tie.Need-is-layout-broken-requires
+is-layout-broken-requires c κs = (
+  sized _ (in-range c),
+  narrow _ _ (c .before .before .header-of .ensures)
+      (λ i. omega (arith, c .before .before .before .before .before .shared-slice-known .given i)),
+)
+
+returns-3 : tie.Need-returns-3
+returns-3 c =
+    sym
+    (judged-layout _ _ (c .before .before .before .before .header-of .ensures) (in-length (c .before .before .before .before .before))
+    (in-range (c .before .before))
+    (sym (c .before .is-layout-broken .ensures) ∙ c .if3 .taken))
+
+judge-work-requires : tie.Need-judge-work-requires
+judge-work-requires c κs = record { sized = sized _ (in-range (c .before .before)); laid = laid _ _ (in-place c) }
+
+returns-4 : tie.Need-returns-4
+returns-4 c =
+    c .judge-work .ensures
+    ∙ sym
+    (judged-work _ _ (c .before .before .before .before .before .header-of .ensures)
+    (in-length (c .before .before .before .before .before .before))
+    (in-range (c .before .before .before))
+    (in-place (c .before)))
+
+pub judge-spec : {M : Type 1} → statement M
+judge-spec =
+    tie.close
+    (tie.spec
+    is-length-out-of-range-requires
+    returns
+    header-of-requires
+    is-size-out-of-range-requires
+    returns-2
+    is-layout-broken-requires
+    returns-3
+    judge-work-requires
+    returns-4)
