@@ -6,7 +6,7 @@ use Rattle.counting.specs.First.{first}
 use Rattle.counting.specs.Places.{places}
 use Rattle.counting.specs.Sum.{sum}
 use Rattle.counting.specs.Totals.{longest, total}
-use Rattle.demand_3.specs.Course.{isUnder}
+use Rattle.demand_3.specs.Got.{isUnder}
 use Rattle.dispatcher.specs.Moves.{arrival, ran, tick}
 use Rattle.dispatcher.specs.Pick.{mayRun, picked}
 use Rattle.dispatcher.specs.Start.{atStart}

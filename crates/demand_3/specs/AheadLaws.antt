@@ -19,6 +19,7 @@ use Rattle.clock.specs.Clock.{later, ticks, until}
 use Rattle.counting.specs.Tests.{not-both}
 use Rattle.counting.specs.Sum.{sum, sum-mono, sum-falls, sum-at, sum-times}
 use Rattle.dispatcher.specs.declared.Dispatcher.{Dispatcher}
+use Rattle.dispatcher.specs.Course.{Move, anArrival, aTick, after}
 use Rattle.dispatcher.specs.Moves.{arrival, tick}
 use Rattle.dispatcher.specs.Pick.{serverAt}
 use Rattle.history.specs.Choice.{given}
@@ -31,7 +32,6 @@ use Rattle.server.specs.PotentialLaws.{owed-reached, owed-beyond, potential-bus
 use Rattle.server.specs.RangeLaws.{busy-charged}
 use Rattle.server.specs.Server.{idle}
 use Rattle.demand_3.specs.BandwidthLaws.{canGet, arrival-pays, tick-pays}
-use Rattle.demand_3.specs.Course.{Move, anArrival, aTick, after}
 use Rattle.demand_3.specs.CourseLaws.{under-own}
 use Rattle.demand_3.specs.MovedLaws.{TickCase, refusedTick, idleTick, givenTick, TickServer, leaves, serves, tick-cases, tick-server}
 use Rattle.demand_3.specs.StandingLaws.{Standing, standing-booked, standing-rests, arrival-standing, tick-standing}

@@ -18,6 +18,7 @@ use Rattle.clock.specs.declared.Length.{Length}
 use Rattle.clock.specs.declared.Moment.{Moment}
 use Rattle.clock.specs.Clock.{ticks, until}
 use Rattle.dispatcher.specs.declared.Dispatcher.{Dispatcher}
+use Rattle.dispatcher.specs.Course.{Move, anArrival, aTick}
 use Rattle.dispatcher.specs.Moves.{arrival, tick}
 use Rattle.dispatcher.specs.Pick.{serverAt}
 use Rattle.dispatcher.specs.PickLaws.{Earliest}
@@ -28,7 +29,7 @@ use Rattle.server.specs.Potential.{potential}
 use Rattle.server.specs.PotentialLaws.{Booked, arrived-potential, later-potential, served-potential, served-beyond, rests-potential}
 use Rattle.server.specs.RangeLaws.{busy-charged}
 use Rattle.server.specs.Server.{idle}
-use Rattle.demand_3.specs.Course.{Move, anArrival, aTick, isUnder, got}
+use Rattle.demand_3.specs.Got.{isUnder, got}
 use Rattle.demand_3.specs.CourseLaws.{under-away, under-nobody, under-own}
 use Rattle.demand_3.specs.MovedLaws.{ArrivalServer, passes, brings, TickServer, leaves, serves, arrival-server, tick-server, tick-clock}
 use Rattle.demand_3.specs.StandingLaws.{Standing, standing-booked, arrival-standing, tick-standing}

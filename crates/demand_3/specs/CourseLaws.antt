@@ -8,9 +8,10 @@ use mathlib.Core.Path.{_≡_, refl}
 use native.Mathlib.Omega.{arith}
 use Rattle.clock.specs.declared.Moment.{Moment}
 use Rattle.dispatcher.specs.declared.Dispatcher.{Dispatcher}
+use Rattle.dispatcher.specs.Course.{Move, moved, after}
 use Rattle.history.specs.Choice.{Choice, nobody, given, isFor}
 use Rattle.history.specs.ChoiceLaws.{for-nobody}
-use Rattle.demand_3.specs.Course.{Move, moved, after, givenBy, isUnder, got}
+use Rattle.demand_3.specs.Got.{givenBy, isUnder, got}
 
 module _ (i : ℕ) (b : Moment) where
   -- no tick that is another's counts

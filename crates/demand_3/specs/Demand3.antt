@@ -11,13 +11,14 @@ use Rattle.clock.specs.declared.Length.{Length}
 use Rattle.clock.specs.declared.Moment.{Moment}
 use Rattle.clock.specs.Clock.{until}
 use Rattle.dispatcher.specs.declared.Dispatcher.{Dispatcher}
+use Rattle.dispatcher.specs.Course.{Move, after}
 use Rattle.dispatcher.specs.Moves.{ranOne, tick}
 use Rattle.dispatcher.specs.Pick.{serverAt}
 use Rattle.dispatcher.specs.Start.{atStart}
 use Rattle.refusal.specs.Refusals.{gave, accepted}
 use Rattle.server.specs.Server.{idle}
 use Rattle.sizes.specs.Sizes.{mostFrame, mostServers}
-use Rattle.demand_3.specs.Course.{Move, after, got}
+use Rattle.demand_3.specs.Got.{got}
 
 -- Of a table and its dispatcher at the start.
 module _ (start : Dispatcher) (t : Table) where

@@ -6,13 +6,13 @@ use mathlib.Core.Path.{ap}
 use Rattle.booking.specs.Admission.{Table}
 use Rattle.booking.specs.AdmissionLaws.{Admitted, admitted}
 use Rattle.clock.specs.declared.Length.{Length}
+use Rattle.dispatcher.specs.Course.{Move, after}
 use Rattle.dispatcher.specs.Start.{atStart}
 use Rattle.dispatcher.specs.StartLaws.{start-server}
 use Rattle.moments.specs.Moments.{choiceOf}
 use Rattle.sizes.specs.Sizes.{mostFrame, mostServers}
 use Rattle.demand_3.specs.AheadLaws.{Covered, resting-covered, after-covered, deadline-ahead, tick-in-time}
 use Rattle.demand_3.specs.BandwidthLaws.{bandwidth}
-use Rattle.demand_3.specs.Course.{Move, after}
 use Rattle.demand_3.specs.Demand3.{Demand3, OnAdmittedTables}
 use Rattle.demand_3.specs.StandingLaws.{start-standing}
 

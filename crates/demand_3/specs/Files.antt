@@ -14,7 +14,7 @@ use Rattle.moments.specs.Moments.{atMoment, ready, history}
 use Rattle.refusal.specs.Refusals.{accepted}
 use Rattle.server.specs.Server.{idle}
 use Rattle.workfile.specs.Work.{Work, work}
-use Rattle.demand_3.specs.Course.{isUnder}
+use Rattle.demand_3.specs.Got.{isUnder}
 
 module _ (w : Work) where
   -- the horizon N, at which the run stops

@@ -13,6 +13,7 @@ use Rattle.clock.specs.declared.Moment.{Moment}
 use Rattle.clock.specs.Clock.{moment, until}
 use Rattle.counting.specs.Count.{count-empty}
 use Rattle.dispatcher.specs.declared.Dispatcher.{Dispatcher}
+use Rattle.dispatcher.specs.Course.{after}
 use Rattle.dispatcher.specs.Moves.{Turn, idled, ranOne, tick}
 use Rattle.dispatcher.specs.Pick.{serverAt}
 use Rattle.dispatcher.specs.Start.{atStart}
@@ -25,7 +26,7 @@ use Rattle.moments.specs.Moments.{taken, atMoment, ready, turn, choiceOf, histo
 use Rattle.refusal.specs.Refusals.{Said, refused, gave}
 use Rattle.server.specs.Server.{idle}
 use Rattle.workfile.specs.Work.{Work}
-use Rattle.demand_3.specs.Course.{after, isUnder}
+use Rattle.demand_3.specs.Got.{isUnder}
 use Rattle.demand_3.specs.CourseLaws.{after-both}
 use Rattle.demand_3.specs.Demand3.{Demand3}
 use Rattle.demand_3.specs.Demand3Laws.{admitted-demand-3}

@@ -1,11 +1,11 @@
 pub mod AheadLaws
 pub mod BandwidthLaws
-pub mod Course
 pub mod CourseLaws
 pub mod Demand3
 pub mod Demand3Laws
 pub mod Files
 pub mod FilesLaws
+pub mod Got
 pub mod Live
 pub mod LiveLaws
 pub mod MovedLaws

@@ -10,12 +10,13 @@ use Rattle.clock.specs.Clock.{until}
 use Rattle.dispatcher.specs.declared.Dispatcher.{Dispatcher}
 use Rattle.dispatcher.specs.declared.TickAnswer.the-variants.{Ran}
 use Rattle.dispatcher.specs.declared.Ticked.{Ticked}
+use Rattle.dispatcher.specs.Course.{Move, after}
 use Rattle.dispatcher.specs.Moves.{tick, tickSays}
 use Rattle.dispatcher.specs.Pick.{serverAt}
 use Rattle.opening.specs.Opening.{listed, judged, opening}
 use Rattle.refusal.specs.Refusals.{accepted}
 use Rattle.server.specs.Server.{idle}
-use Rattle.demand_3.specs.Course.{Move, after, got}
+use Rattle.demand_3.specs.Got.{got}
 use Rattle.demand_3.specs.Demand3.{Demand3}
 
 -- moves have led from one dispatcher to another

@@ -10,6 +10,7 @@ use Rattle.clock.specs.Clock.{until}
 use Rattle.dispatcher.specs.declared.Arrived.{Arrived}
 use Rattle.dispatcher.specs.declared.Dispatcher.{Dispatcher}
 use Rattle.dispatcher.specs.declared.Ticked.{Ticked}
+use Rattle.dispatcher.specs.Course.{Move, anArrival, aTick, moved, after}
 use Rattle.dispatcher.specs.Moves.{Moved, Turn, ranOne, arrival, arrivalSays, tick, tickSays, turnOf}
 use Rattle.dispatcher.specs.Pick.{serverAt}
 use Rattle.moments.specs.Moments.{choiceOf}
@@ -19,7 +20,7 @@ use Rattle.opening.specs.OpeningLaws.{accepted-in-range, accepted-admitted, ope
 use Rattle.refusal.specs.declared.Verdict.the-variants.{Accepted}
 use Rattle.refusal.specs.Refusals.{gave, accepted, onPaper}
 use Rattle.server.specs.Server.{idle}
-use Rattle.demand_3.specs.Course.{Move, anArrival, aTick, moved, after, givenBy, isUnder, got}
+use Rattle.demand_3.specs.Got.{givenBy, isUnder, got}
 use Rattle.demand_3.specs.CourseLaws.{under-nobody, after-last, got-last}
 use Rattle.demand_3.specs.Demand3.{Demand3}
 use Rattle.demand_3.specs.Demand3Laws.{admitted-demand-3}

@@ -9,10 +9,11 @@ use native.Mathlib.Omega.{arith}
 use Rattle.clock.specs.declared.Moment.{Moment}
 use Rattle.counting.specs.Count.{count}
 use Rattle.dispatcher.specs.declared.Dispatcher.{Dispatcher}
+use Rattle.dispatcher.specs.Course.{Move, anArrival, aTick, after}
 use Rattle.dispatcher.specs.Moves.{arrival, tick}
 use Rattle.moments.specs.Moments.{taken, atMoment, ready, turn, choiceOf, history}
 use Rattle.workfile.specs.Work.{Work}
-use Rattle.demand_3.specs.Course.{Move, anArrival, aTick, after, isUnder, got}
+use Rattle.demand_3.specs.Got.{isUnder, got}
 use Rattle.demand_3.specs.CourseLaws.{under-nobody, after-both, got-both}
 
 module _ (w : Work) where

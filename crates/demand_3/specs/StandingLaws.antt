@@ -8,6 +8,7 @@ use Rattle.booking.specs.AdmissionLaws.{Admitted}
 use Rattle.booking.specs.ShareLaws.{Sound}
 use Rattle.clock.specs.declared.Length.{Length}
 use Rattle.dispatcher.specs.declared.Dispatcher.{Dispatcher}
+use Rattle.dispatcher.specs.Course.{Move, anArrival, aTick, after}
 use Rattle.dispatcher.specs.MoveLaws.{arrival-within, tick-within}
 use Rattle.dispatcher.specs.Moves.{arrival, tick}
 use Rattle.dispatcher.specs.Pick.{serverAt}
@@ -20,7 +21,6 @@ use Rattle.server.specs.Potential.{HasBudgetOrRests}
 use Rattle.server.specs.PotentialLaws.{Booked, ranged-rests}
 use Rattle.server.specs.Server.{bookingOf}
 use Rattle.sizes.specs.Sizes.{mostFrame, mostServers}
-use Rattle.demand_3.specs.Course.{Move, anArrival, aTick, after}
 use Rattle.demand_3.specs.MovedLaws.{ArrivalServer, passes, brings, TickServer, leaves, serves, arrival-server, tick-server, tick-count}
 
 pub record Standing (t : Table) (d : Dispatcher) : Type 0 where

@@ -12,7 +12,7 @@ use Rattle.trace.specs.Ticks.{endOf, ticksOf, added}
 use Rattle.trace.specs.Trace.{trace}
 use Rattle.trace.specs.Written.{fitting, segmentIn}
 use Rattle.workfile.specs.Work.{Work}
-use Rattle.demand_3.specs.Course.{isUnder}
+use Rattle.demand_3.specs.Got.{isUnder}
 use Rattle.demand_3.specs.Files.{NoWorkAt}
 
 -- a segment, and so each of its ticks, ends no later than the deadline that it was given under

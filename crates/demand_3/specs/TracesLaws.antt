@@ -24,7 +24,7 @@ use Rattle.trace.specs.Trace.{trace}
 use Rattle.trace.specs.Written.{fitting, written}
 use Rattle.trace.specs.WrittenLaws.{written-length}
 use Rattle.workfile.specs.Work.{Work, work}
-use Rattle.demand_3.specs.Course.{isUnder}
+use Rattle.demand_3.specs.Got.{isUnder}
 use Rattle.demand_3.specs.CourseLaws.{under-nobody}
 use Rattle.demand_3.specs.Files.{NoWorkAt, FileDemand3}
 use Rattle.demand_3.specs.FilesLaws.{file-demand-3}

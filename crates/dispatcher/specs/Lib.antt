@@ -1,3 +1,4 @@
+pub mod Course
 pub mod MoveLaws
 pub mod Moves
 pub mod Pick
