@@ -52,7 +52,7 @@ fn judge_arrivals(file: &[u8], h: Header, places: usize) -> Verdict
     let mut before = 0;
     let mut k = 0;
     while k < arrivals {
-        let a = workfile::arrival_at(file, offset + sizes::ARRIVAL_BYTES * k);
+        let a = reader::arrival_from(file, offset + sizes::ARRIVAL_BYTES * k);
         let now = a.moment.tick;
         let faulty = arrival::is_faulty(h.servers.count, a.server, a.cost);
         if faulty {
@@ -86,7 +86,7 @@ fn admit(file: &[u8], h: Header) -> Verdict
     while k < servers {
         let found = booking::share_of(
             h.frame,
-            workfile::booking_at(file, offset + sizes::SERVER_BYTES * k),
+            reader::booking_from(file, offset + sizes::SERVER_BYTES * k),
         );
         if found.faulty {
             return Verdict::Refused(Refusal::FaultyServer(k));

@@ -21,14 +21,14 @@ abbrev μ-loop : tie.MeasureT-loop
 loop-holds : tie.Need-loop-holds Inv-loop μ-loop
 loop-holds c = (omega arith, sofar-none _ _)
 
-mul-booking-at : tie.Need-mul-booking-at Inv-loop μ-loop
-mul-booking-at c = omega arith
+mul-booking-from : tie.Need-mul-booking-from Inv-loop μ-loop
+mul-booking-from c = omega arith
 
-add-booking-at : tie.Need-add-booking-at Inv-loop μ-loop
-add-booking-at c = omega arith
+add-booking-from : tie.Need-add-booking-from Inv-loop μ-loop
+add-booking-from c = omega arith
 
-booking-at-requires : tie.Need-booking-at-requires Inv-loop μ-loop
-booking-at-requires c κs = search needs
+booking-from-requires : tie.Need-booking-from-requires Inv-loop μ-loop
+booking-from-requires c κs = search needs
 
 share-of-requires : tie.Need-share-of-requires Inv-loop μ-loop
 share-of-requires c κs = search needs
@@ -38,7 +38,7 @@ found : (c : tie.After-share-of Inv-loop μ-loop)
     → c .share-of .result
     ≡ shareOf (c .before .before .before .before .before .args .h .frame)
     (workUnder (c .before .before .before .before .before .args .h) (c .before .before .before .before .before .args .file .now) .table .booking (c .before .before .before .loop .k))
-found c = rw (c .before .booking-at .ensures) at (c .share-of .ensures)
+found c = rw (c .before .booking-from .ensures) at (c .share-of .ensures)
 
 returns : tie.Need-returns Inv-loop μ-loop
 returns c =
@@ -102,9 +102,9 @@ admit-spec =
     Inv-loop
     μ-loop
     loop-holds
-    mul-booking-at
-    add-booking-at
-    booking-at-requires
+    mul-booking-from
+    add-booking-from
+    booking-from-requires
     share-of-requires
     returns
     add-sum

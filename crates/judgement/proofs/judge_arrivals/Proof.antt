@@ -22,14 +22,14 @@ abbrev μ-loop : tie.MeasureT-loop
 loop-holds : tie.Need-loop-holds Inv-loop μ-loop
 loop-holds c = (omega arith, passed-none _)
 
-mul-arrival-at : tie.Need-mul-arrival-at Inv-loop μ-loop
-mul-arrival-at c = omega arith
+mul-arrival-from : tie.Need-mul-arrival-from Inv-loop μ-loop
+mul-arrival-from c = omega arith
 
-add-arrival-at : tie.Need-add-arrival-at Inv-loop μ-loop
-add-arrival-at c = omega arith
+add-arrival-from : tie.Need-add-arrival-from Inv-loop μ-loop
+add-arrival-from c = omega arith
 
-arrival-at-requires : tie.Need-arrival-at-requires Inv-loop μ-loop
-arrival-at-requires c κs = search needs
+arrival-from-requires : tie.Need-arrival-from-requires Inv-loop μ-loop
+arrival-from-requires c κs = search needs
 
 is-faulty-requires : tie.Need-is-faulty-requires Inv-loop μ-loop
 is-faulty-requires c κs = search needs
@@ -37,21 +37,21 @@ is-faulty-requires c κs = search needs
 returns : tie.Need-returns Inv-loop μ-loop
 returns c =
     sym
-    (passed-faulty _ (c .before .before .before .before .loop .inv .1) (c .before .before .arrival-at .ensures) _
+    (passed-faulty _ (c .before .before .before .before .loop .inv .1) (c .before .before .arrival-from .ensures) _
     (omega arith)
     (sym (c .before .is-faulty .ensures) ∙ c .if1 .taken))
 
 no-fault : (c : tie.Else1 Inv-loop μ-loop)
     → faulty (c .before .before .before .before .before .before .args .h .servers .count)
-    (c .before .before .arrival-at .result .server)
-    (c .before .before .arrival-at .result .cost)
+    (c .before .before .arrival-from .result .server)
+    (c .before .before .arrival-from .result .cost)
     ≡ false
 no-fault c = sym (c .before .is-faulty .ensures) ∙ c .if1 .left
 
 returns-2 : tie.Need-returns-2 Inv-loop μ-loop
 returns-2 c =
     sym
-    (passed-backward _ (c .before .before .before .before .before .loop .inv .1) (c .before .before .before .arrival-at .ensures) _
+    (passed-backward _ (c .before .before .before .before .before .loop .inv .1) (c .before .before .before .arrival-from .ensures) _
     (omega arith)
     (no-fault (c .before))
     (c .if2 .taken))
@@ -59,7 +59,7 @@ returns-2 c =
 returns-3 : tie.Need-returns-3 Inv-loop μ-loop
 returns-3 c =
     sym
-    (passed-late _ (c .before .before .before .before .before .before .loop .inv .1) (c .before .before .before .before .arrival-at .ensures) _
+    (passed-late _ (c .before .before .before .before .before .before .loop .inv .1) (c .before .before .before .before .arrival-from .ensures) _
     (omega arith)
     (no-fault (c .before .before))
     (c .before .if2 .left)
@@ -75,7 +75,7 @@ loop-again : tie.Need-loop-again Inv-loop μ-loop
 loop-again c = (
   omega arith,
   rw add-one
-      (passed-more _ (c .before .before .before .before .before .before .loop .inv .1) (c .before .before .before .before .arrival-at .ensures)
+      (passed-more _ (c .before .before .before .before .before .before .loop .inv .1) (c .before .before .before .before .arrival-from .ensures)
       (no-fault (c .before .before))
       (c .before .if2 .left)
       (c .if3 .left)),
@@ -105,9 +105,9 @@ judge-arrivals-spec =
     Inv-loop
     μ-loop
     loop-holds
-    mul-arrival-at
-    add-arrival-at
-    arrival-at-requires
+    mul-arrival-from
+    add-arrival-from
+    arrival-from-requires
     is-faulty-requires
     returns
     returns-2

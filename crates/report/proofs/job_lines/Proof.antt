@@ -31,16 +31,16 @@ loop-holds c = (omega arith, each-none _ _)
 here : (c : tie.In-loop Inv-loop μ-loop) → c .before .loop .k < 4_096
 here c = omega (arith, c .loop-test .taken, arrivals-read _ (c .before .before .header-of .ensures), c .before .before .before .before .before .before .pre .0 .fit .arrivals)
 
-mul-arrival-at : tie.Need-mul-arrival-at Inv-loop μ-loop
-mul-arrival-at c = omega (arith, here c)
+mul-arrival-from : tie.Need-mul-arrival-from Inv-loop μ-loop
+mul-arrival-from c = omega (arith, here c)
 
-add-arrival-at : tie.Need-add-arrival-at Inv-loop μ-loop
-add-arrival-at c =
+add-arrival-from : tie.Need-add-arrival-from Inv-loop μ-loop
+add-arrival-from c =
     let read = c .before .before .header-of .ensures in
     omega (arith, here c, arrival-placed _ read (c .before .before .before .before .before .before .pre .0) (c .before .loop .k) (omega (arith, c .loop-test .taken, arrivals-read _ read)))
 
-arrival-at-requires : tie.Need-arrival-at-requires Inv-loop μ-loop
-arrival-at-requires c κs = tt
+arrival-from-requires : tie.Need-arrival-from-requires Inv-loop μ-loop
+arrival-from-requires c κs = tt
 
 mul-job : tie.Need-mul-job Inv-loop μ-loop
 mul-job c = omega (arith, here (c .before .before))
@@ -65,7 +65,7 @@ loop-again c =
       each-next _ (l .k) _ _ _ (l .inv .1)
           (added-as _
           (ap (λ (a : Arrival). jobWith a (l .k) (finishOf (getD finishes (l .k) 0)))
-          (c .before .before .before .before .before .arrival-at .ensures ∙ arrival-read _ (c .before .before .before .before .before .before .before .before .header-of .ensures) (l .k)))
+          (c .before .before .before .before .before .arrival-from .ensures ∙ arrival-read _ (c .before .before .before .before .before .before .before .before .header-of .ensures) (l .k)))
           (c .before .before .job .ensures)),
     )
 
@@ -85,9 +85,9 @@ job-lines-spec =
     μ-loop
     header-of-requires
     loop-holds
-    mul-arrival-at
-    add-arrival-at
-    arrival-at-requires
+    mul-arrival-from
+    add-arrival-from
+    arrival-from-requires
     mul-job
     shared-slice-read-job
     job-requires

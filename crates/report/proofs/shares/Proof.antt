@@ -43,16 +43,16 @@ loop-holds c = (omega arith, sofar-none _ _)
 here : (c : tie.In-loop Inv-loop μ-loop) → c .before .loop .k ≤ 64
 here c = omega (arith, c .loop-test .taken, servers-read _ (c .before .before .header-of .ensures), c .before .before .before .before .pre .fit .servers)
 
-mul-booking-at : tie.Need-mul-booking-at Inv-loop μ-loop
-mul-booking-at c = omega (arith, here c)
+mul-booking-from : tie.Need-mul-booking-from Inv-loop μ-loop
+mul-booking-from c = omega (arith, here c)
 
-add-booking-at : tie.Need-add-booking-at Inv-loop μ-loop
-add-booking-at c =
+add-booking-from : tie.Need-add-booking-from Inv-loop μ-loop
+add-booking-from c =
     let read = c .before .before .header-of .ensures in
     omega (arith, here c, booking-placed _ read (c .before .before .before .before .pre) (c .before .loop .k) (omega (arith, c .loop-test .taken, servers-read _ read)))
 
-booking-at-requires : tie.Need-booking-at-requires Inv-loop μ-loop
-booking-at-requires c κs = tt
+booking-from-requires : tie.Need-booking-from-requires Inv-loop μ-loop
+booking-from-requires c κs = tt
 
 share-of-requires : tie.Need-share-of-requires Inv-loop μ-loop
 share-of-requires c κs = tt
@@ -62,7 +62,7 @@ found : (c : tie.After-share-of Inv-loop μ-loop)
     → c .share-of .result ≡ shareOf (work (c .before .before .before .before .before .before .args .file .now) .frame) (work (c .before .before .before .before .before .before .args .file .now) .table .booking (c .before .before .before .loop .k))
 found c =
     let read = c .before .before .before .before .header-of .ensures in
-    c .share-of .ensures ∙ ap₂ shareOf (frame-read _ read) (c .before .booking-at .ensures ∙ booking-read _ read (c .before .before .before .loop .k))
+    c .share-of .ensures ∙ ap₂ shareOf (frame-read _ read) (c .before .booking-from .ensures ∙ booking-read _ read (c .before .before .before .loop .k))
 
 -- one server more
 one-more : (c : tie.After-struct-known Inv-loop μ-loop)
@@ -111,9 +111,9 @@ shares-spec =
     μ-loop
     header-of-requires
     loop-holds
-    mul-booking-at
-    add-booking-at
-    booking-at-requires
+    mul-booking-from
+    add-booking-from
+    booking-from-requires
     share-of-requires
     add-sum
     add-k

@@ -30,14 +30,14 @@ blank-requires c κs = search needs
 loop-holds : tie.Need-loop-holds Inv-loop μ-loop
 loop-holds c = (omega arith, rw (c .blank .ensures) (start-none _))
 
-mul-booking-at : tie.Need-mul-booking-at Inv-loop μ-loop
-mul-booking-at c =
+mul-booking-from : tie.Need-mul-booking-from Inv-loop μ-loop
+mul-booking-from c =
     let start = c .before .before .before .before .before .before in
     let count = servers-read (start .args .file .now) (c .before .before .before .before .header-of .ensures) in
     omega (arith, c .loop-test .taken, count, start .pre .fit .servers)
 
-add-booking-at : tie.Need-add-booking-at Inv-loop μ-loop
-add-booking-at c =
+add-booking-from : tie.Need-add-booking-from Inv-loop μ-loop
+add-booking-from c =
     let start = c .before .before .before .before .before .before in
     let read = c .before .before .before .before .header-of .ensures in
     let count = servers-read (start .args .file .now) read in
@@ -46,8 +46,8 @@ add-booking-at c =
       booking-placed (start .args .file .now) read (start .pre) (c .before .loop .k) (omega (arith, c .loop-test .taken, count)),
     )
 
-booking-at-requires : tie.Need-booking-at-requires Inv-loop μ-loop
-booking-at-requires c κs = search needs
+booking-from-requires : tie.Need-booking-from-requires Inv-loop μ-loop
+booking-from-requires c κs = search needs
 
 fresh-requires : tie.Need-fresh-requires Inv-loop μ-loop
 fresh-requires c κs = search needs
@@ -82,7 +82,7 @@ loop-again c =
         add-one,
         c .before .before .before .loop .inv .1,
         c .fresh .ensures,
-        c .before .booking-at .ensures,
+        c .before .booking-from .ensures,
         booking-read file read k,
       )
           (start-more (work file .table .booking) k (omega (arith, more, start .pre .fit .servers))),
@@ -106,9 +106,9 @@ start-spec =
     header-of-requires
     blank-requires
     loop-holds
-    mul-booking-at
-    add-booking-at
-    booking-at-requires
+    mul-booking-from
+    add-booking-from
+    booking-from-requires
     fresh-requires
     mul-servers
     array-set-from-servers

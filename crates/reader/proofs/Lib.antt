@@ -1,0 +1,6 @@
+mod Called
+mod Going
+mod Held
+mod Kind
+pub mod OneOutcome
+mod Taking
