@@ -3,6 +3,7 @@ pub mod MoveLaws
 pub mod Moves
 pub mod Pick
 pub mod PickLaws
+pub mod RefusedLaws
 pub mod Start
 pub mod StartLaws
 pub mod Told
