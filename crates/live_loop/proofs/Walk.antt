@@ -9,7 +9,7 @@ use lib.Dec.{T as Holds}
 use lib.ListN.{getD}
 pub use mir.Syntax.{named, w64, Sym, Ty, tyStruct, tcons, tnil, Name, Step as PStep, deref, field, place, Opd as Operand, copy, rvOpd, Body as Code, seq, assign, call, return}
 pub use mir.Val.{Val, vint, vptr, vstruct, vcons, vnil, WT, hasTy}
-pub use base.Logic.{SProp, ent, emp, sep, ex, assoc∗, snd∗, via, exE}
+pub use base.Logic.{SProp, ent, emp, sep, ex, snd∗, via, exE}
 pub use base.Fml.{GName, Lft, Share, Fml, ftrue, flft, fsep, fobs, fbor, fobor, fauth, fat, froom}
 pub use prog.Memory.{Memory}
 pub use prog.Routine.{Routine}
@@ -17,7 +17,7 @@ pub use prog.Wp.{Heap, Calls, Loops, WpFn, Env, Spot, noLocal}
 pub use ghost.Atoms.{Atoms, sem}
 pub use contract.Monad.{Fun, fact}
 pub use contract.Running.{givenOf, tables}
-pub use types.Kit.{Given, ‵, _⊛_, _$_, _∵_, !, qed, by, move, keep, drop, split, fsplit, fsplit3, fjoin, suffices, done, Item, raw, some, later, prop, runs, frees, atRet, Seq, Step, step, use0, use1, join, pick, rewrite, fjoin3, feqI, frame, await, updating, now as at-once, show}
+pub use types.Kit.{Given, ‵, _⊛_, _$_, _∵_, !, qed, by, move, keep, drop, split, fsplit, fsplit3, fjoin, suffices, done, Item, raw, some, later, prop, runs, frees, atRet, Seq, use0, use1, join, pick, rewrite, fjoin3, feqI, frame, await, updating, now as at-once, show}
 use types.Part.{whole, sub, look-in}
 pub use types.Run.{look, init, forget, stop, from, load, and-then, no-more, enter, alloc1, alloc0, params1, pass1, pass0, free1, free0, Finds, Walks, Opds, look-raw, store-raw, hop, fld, of-opd, assigns, land, returns}
 use types.SemTy.{Body}
@@ -40,13 +40,7 @@ pub use denote.Triple.Walked.{needs, Stays, stay-ref, walkOf, goes-ref, ends-at,
 use Rattle.dispatcher.specs.declared.Dispatcher.{Dispatcher}
 use Rattle.dispatcher.proofs.Dispatcher as D
 use Rattle.dispatcher.proofs.Dispatcher.Laws as D′
-pub use Rattle.outcome.specs.Walked.{both-said}
-
--- two clauses of an `ensures` that are shown, one after the other
-pub says-both : {M : Type 1} {𝓤 : URA M} {H : Heap 𝓤} {A : Atoms 𝓤} {K : Type 0} {W : Given 𝓤 H A} {Γ : List (Item 𝓤)} → K
-    → {φ ψ : Type 0} {P : SProp 𝓤} → φ → ψ → Step K W Γ (prop P) Γ (prop (sep 𝓤 P (sep 𝓤 (fact 𝓤 φ) (fact 𝓤 ψ))))
-says-both {𝓤 = 𝓤} t {φ} {ψ} {P} x y = step (λ s.
-    suffices t (sep 𝓤 (sep 𝓤 P (fact 𝓤 φ)) (fact 𝓤 ψ)) (assoc∗ 𝓤 P (fact 𝓤 φ) (fact 𝓤 ψ)) $ says t y $ says t x $ s)
+pub use Rattle.outcome.specs.Walked.{both-said, says-both}
 
 -- A dispatcher's machine value, and that it has its type.
 
