@@ -8,7 +8,7 @@ use Rattle.booking.specs.Admission.{shares}
 use Rattle.clock.specs.Clock.{moment, ticks}
 use Rattle.demand_3.specs.Files.{gotFrom}
 use Rattle.finish.specs.Finish.{Finish, isOpen, at}
-use Rattle.judgement.specs.Judgement as workfile
+use Rattle.judgement.specs.Judgement as judgement
 use Rattle.moments.specs.Moments.{history}
 use Rattle.opening.specs.Opening.{listed, judged}
 use Rattle.refusal.specs.Refusals.{Said, refused, accepted}
@@ -80,7 +80,7 @@ abbrev pub Holds : Example → Type 0
 Holds (waking Q T c d t d′ c′) = woken (idleServer Q T c d) (moment t) ≡ idleServer Q T c′ d′
 Holds (adding H table sum) = shares (ticks H) (listed table) ≡ sum
 Holds (judging H table answer) = judged table (ticks H) ≡ answer
-Holds (accepting file places) = workfile.judged (bytes file) places ≡ accepted
+Holds (accepting file places) = judgement.judged (bytes file) places ≡ accepted
 Holds (tracing file segments) = trace (history (work (bytes file))) (work (bytes file) .horizon .tick) ≡ segments
 Holds (finishing file job finish) = finishes (work (bytes file)) job ≡ finish
 Holds (summing file server record′) = summaryOf (work (bytes file)) server ≡ record′

@@ -8,9 +8,9 @@ use mathlib.Core.List.{List}
 use mathlib.Core.Path.{_≡_}
 use Rattle.booking.specs.Admission.{admission}
 use Rattle.counting.specs.Tests.{none-of-three}
+use Rattle.numbers.specs.WordLaws.{word-fits}
 use Rattle.refusal.specs.Refusals.{refused, accepted}
 use Rattle.sizes.specs.Sizes.{arrivalBytes, clockEnd, headerBytes, mostArrivals, mostFrame, mostServers, serverBytes}
-use Rattle.words.specs.WordLaws.{word-fits}
 use Rattle.workfile.specs.declared.Header.{Header}
 use Rattle.workfile.specs.Layout.{header}
 use Rattle.workfile.specs.Work.{Work, workUnder, work}

@@ -5,7 +5,7 @@ use Rattle.arrival.specs.declared.Arrival.{Arrival}
 use Rattle.booking.specs.declared.Booking.{Booking}
 use Rattle.booking.specs.Share.{booked}
 use Rattle.clock.specs.Clock.{moment, ticks}
-use Rattle.words.specs.Word.{word}
+use Rattle.numbers.specs.Word.{word}
 use Rattle.workfile.specs.declared.Header.{Header}
 
 -- "The header is 24 bytes: frame H, horizon N, server count n, server offset, arrival count m, arrival offset."

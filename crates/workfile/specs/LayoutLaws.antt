@@ -6,7 +6,7 @@ use mathlib.Core.Path.{_≡_}
 use native.Mathlib.Omega.{arith}
 use Rattle.booking.specs.Share.{booked}
 use Rattle.clock.specs.Clock.{moment, ticks}
-use Rattle.words.specs.WordLaws.{word-behind}
+use Rattle.numbers.specs.WordLaws.{word-behind}
 use Rattle.workfile.specs.Layout.{bookingAt, arrivalAt}
 
 pub bookingAt-behind : (file : List ℕ) (at : ℕ) → length file ≤ at → bookingAt file at ≡ booked 0 0

@@ -5,7 +5,7 @@ use arrival::Arrival;
 use booking::Booking;
 use clock::Length;
 use clock::Moment;
-use words::word_at;
+use numbers::word_at;
 
 // How many records there are, and the byte at which the first of them starts.
 pub struct Block {

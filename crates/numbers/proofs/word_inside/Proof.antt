@@ -1,8 +1,8 @@
--- `words::word_inside` meets its promise: all four bytes are below the length.
+-- `numbers::word_inside` meets its promise: all four bytes are below the length.
 use borrow.Author.Needs.{needs}
-use Rattle.words.specs.Word.{word}
-use Rattle.words.proofs.word_inside.Statement.{statement}
-use Rattle.words.proofs.word_inside.Tie as tie
+use Rattle.numbers.specs.Word.{word}
+use Rattle.numbers.proofs.word_inside.Statement.{statement}
+use Rattle.numbers.proofs.word_inside.Tie as tie
 
 shared-slice-read-low-first : tie.Need-shared-slice-read-low-first
 shared-slice-read-low-first c = search needs

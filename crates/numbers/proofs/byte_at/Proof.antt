@@ -1,9 +1,9 @@
--- `words::byte_at` meets its promise: there is nothing behind the end.
+-- `numbers::byte_at` meets its promise: there is nothing behind the end.
 use borrow.Author.Needs.{needs}
 use lib.ListN.{List·getD-eq-default}
 use mathlib.Core.Path.{sym}
-use Rattle.words.proofs.byte_at.Statement.{statement}
-use Rattle.words.proofs.byte_at.Tie as tie
+use Rattle.numbers.proofs.byte_at.Statement.{statement}
+use Rattle.numbers.proofs.byte_at.Tie as tie
 
 returns : tie.Need-returns
 returns c = sym (List·getD-eq-default (c .before .args .file .now) 0 (c .if1 .taken))

@@ -1,8 +1,8 @@
--- `words::word_cut_short` meets its promise: it asks for the four bytes one by one.
+-- `numbers::word_cut_short` meets its promise: it asks for the four bytes one by one.
 use borrow.Author.Needs.{needs}
-use Rattle.words.specs.Word.{word}
-use Rattle.words.proofs.word_cut_short.Statement.{statement}
-use Rattle.words.proofs.word_cut_short.Tie as tie
+use Rattle.numbers.specs.Word.{word}
+use Rattle.numbers.proofs.word_cut_short.Statement.{statement}
+use Rattle.numbers.proofs.word_cut_short.Tie as tie
 
 byte-at-requires : tie.Need-byte-at-requires
 byte-at-requires c κs = search needs

@@ -2,7 +2,7 @@
 ghost use mathlib.Core.Path.{_≡_};
 ghost use Prim.Native.Nat.{_+_, _*_, _<_};
 ghost use lib.ListN.{getD, length};
-ghost use Rattle.words.specs.Word.{word};
+ghost use Rattle.numbers.specs.Word.{word};
 
 // The number that starts at a byte of the file, low byte first; bytes behind the end count 0.
 pub fn word_at(file: &[u8], at: usize) -> u32

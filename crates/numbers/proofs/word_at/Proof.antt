@@ -1,9 +1,9 @@
--- `words::word_at` meets its promise: behind the end a number is 0, and the others are read by the way that fits.
+-- `numbers::word_at` meets its promise: behind the end a number is 0, and the others are read by the way that fits.
 use borrow.Author.Needs.{needs}
 use mathlib.Core.Path.{sym}
-use Rattle.words.specs.WordLaws.{word-behind}
-use Rattle.words.proofs.word_at.Statement.{statement}
-use Rattle.words.proofs.word_at.Tie as tie
+use Rattle.numbers.specs.WordLaws.{word-behind}
+use Rattle.numbers.proofs.word_at.Statement.{statement}
+use Rattle.numbers.proofs.word_at.Tie as tie
 
 returns : tie.Need-returns
 returns c = sym (word-behind _ _ (c .if1 .taken))

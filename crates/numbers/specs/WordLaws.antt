@@ -4,7 +4,7 @@ use lib.ListN.{getD, length, List·getD-eq-default}
 use mathlib.Core.List.{List}
 use mathlib.Core.Path.{_≡_}
 use native.Mathlib.Omega.{arith}
-use Rattle.words.specs.Word.{word}
+use Rattle.numbers.specs.Word.{word}
 
 -- behind the end there is nothing, which counts 0
 pub word-behind : (file : List ℕ) (at : ℕ) → length file ≤ at → word file at ≡ 0

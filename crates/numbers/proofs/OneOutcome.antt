@@ -1,6 +1,6 @@
 -- Each promise of this crate allows one outcome.
 use Rattle.outcome.specs.OneOutcome.{OneOutcome, both-are}
-use Rattle.words.proofs.word_at.Reads as word-at
+use Rattle.numbers.proofs.word_at.Reads as word-at
 
 pub word-at-one : OneOutcome word-at.Post
 word-at-one l a x y at-x at-y p q = both-are p q
