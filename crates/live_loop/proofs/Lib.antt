@@ -1,3 +1,3 @@
 pub mod OneOutcome
 pub mod TwoForms
-pub mod Walk
+mod Walk
