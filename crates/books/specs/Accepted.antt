@@ -2,16 +2,14 @@
 use Prim.Native.Nat.{ℕ, _+_, _*_, _≤_, _<_}
 use borrow.Author.Tests.{lt-ltb, le-ltb}
 use lib.Dec.{ltb}
-use lib.ListN.{length}
 use mathlib.Core.Bool.{cond}
 use mathlib.Core.List.{List}
 use mathlib.Core.Path.{_≡_, ap}
 use native.Mathlib.Decide.{decLt}
 use native.Mathlib.Omega.{arith}
 use Rattle.finish.specs.Finish.{workOf}
-use Rattle.judgement.specs.FitLaws.{Fit, judged-fit, judged-placed}
+use Rattle.judgement.specs.FitLaws.{Fit, judged-fit}
 use Rattle.judgement.specs.Judgement.{judged}
-use Rattle.judgement.specs.JudgementLaws.{Placed}
 use Rattle.refusal.specs.Refusals.{accepted}
 use Rattle.sizes.specs.Sizes.{arrivalBytes, serverBytes}
 use Rattle.workfile.specs.declared.Header.{Header}
@@ -21,7 +19,6 @@ use Rattle.books.specs.Jobs.{work-to}
 
 pub record Accepted (file : List ℕ) : Type 0 where
   pub fit : Fit (work file) (work file .arrivals)
-  pub placed : Placed (header file) (length file)
 
 -- a work that fits beside one finish list fits beside any that is long enough
 pub fit-beside : {w : Work} {places : ℕ} (others : ℕ) → Fit w places → w .arrivals ≤ others → Fit w others
@@ -43,7 +40,6 @@ pub judged-accepted : (file : List ℕ) (places : ℕ) → judged file places �
 judged-accepted file places e =
     record {
       fit = fit-beside (work file .arrivals) (judged-fit file places e) (omega arith);
-      placed = judged-placed file places e;
     }
 
 -- What the header of a file tells of its work, as it was read.
@@ -68,32 +64,9 @@ module _ (file : List ℕ) {h : Header} (read : h ≡ header file) where
   unfolding work
   booking-read k = ap (λ (x : Header). bookingAt file (x .servers .offset + serverBytes * k)) read
 
-  -- a server's record starts in the file
-  pub booking-placed : Accepted file → (k : ℕ) → k < work file .table .count → h .servers .offset + serverBytes * k < length file
-  booking-placed ok k more =
-      omega (
-        arith,
-        ok .placed .laid .arrivals-from,
-        ok .placed .laid .arrivals-to,
-        servers-read,
-        ap (λ (x : Header). x .servers .count) read,
-        ap (λ (x : Header). x .servers .offset) read,
-      )
-
   pub arrival-read : (k : ℕ) → arrivalAt file (h .arrivals .offset + arrivalBytes * k) ≡ work file .arrival k
   unfolding work
   arrival-read k = ap (λ (x : Header). arrivalAt file (x .arrivals .offset + arrivalBytes * k)) read
-
-  -- an arrival's record starts in the file
-  pub arrival-placed : Accepted file → (k : ℕ) → k < work file .arrivals → h .arrivals .offset + arrivalBytes * k < length file
-  arrival-placed ok k more =
-      omega (
-        arith,
-        ok .placed .laid .arrivals-to,
-        arrivals-read,
-        ap (λ (x : Header). x .arrivals .count) read,
-        ap (λ (x : Header). x .arrivals .offset) read,
-      )
 
 -- the moment of arrival j, or the horizon behind the last
 unfoldable pub nextMoment : Work → ℕ → ℕ

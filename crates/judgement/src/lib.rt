@@ -1,11 +1,10 @@
 // The judgement of a work file by the refusals 1 to 9.
 ghost use mathlib.Core.Path.{_≡_};
-ghost use lib.ListN.{length};
 ghost use Rattle.booking.specs.Admission.{admission};
 ghost use Rattle.refusal.specs.Refusals.{onPaper};
 ghost use Rattle.workfile.specs.Work.{workUnder};
 ghost use Rattle.judgement.specs.Judgement.{lengthOutOfRange, sizesOutOfRange, layoutBroken, workJudged, judged};
-ghost use Rattle.judgement.specs.JudgementLaws.{Sized, Narrow, Placed};
+ghost use Rattle.judgement.specs.JudgementLaws.{Sized, Narrow};
 ghost use Rattle.judgement.specs.PassedLaws.{listJudged};
 use refusal::Refusal;
 use refusal::Verdict;
@@ -31,7 +30,7 @@ pub fn judge(file: &[u8], places: usize) -> Verdict
 
 // 4 and 5, and where the table is admitted the arrivals and 9.
 fn judge_work(file: &[u8], h: Header, places: usize) -> Verdict
-    requires { ⌜ Placed h (length (now file)) ⌝ }
+    requires { ⌜ Sized h ⌝ }
     ensures { λ r. ⌜ onPaper r ≡ workJudged (workUnder h (now (file .entry))) places ⌝ }
 {
     let table = admit(file, h);
@@ -43,7 +42,7 @@ fn judge_work(file: &[u8], h: Header, places: usize) -> Verdict
 
 // The arrivals in order, each by 6, 7, 8, then 9.
 fn judge_arrivals(file: &[u8], h: Header, places: usize) -> Verdict
-    requires { ⌜ Placed h (length (now file)) ⌝ }
+    requires { ⌜ Sized h ⌝ }
     ensures { λ r. ⌜ onPaper r ≡ listJudged (workUnder h (now (file .entry))) places ⌝ }
 {
     let horizon = h.horizon.tick;
@@ -52,7 +51,7 @@ fn judge_arrivals(file: &[u8], h: Header, places: usize) -> Verdict
     let mut before = 0;
     let mut k = 0;
     while k < arrivals {
-        let a = reader::arrival_from(file, offset + sizes::ARRIVAL_BYTES * k);
+        let a = reader::arrival_from(file, offset, sizes::ARRIVAL_BYTES * k);
         let now = a.moment.tick;
         let faulty = arrival::is_faulty(h.servers.count, a.server, a.cost);
         if faulty {
@@ -75,7 +74,7 @@ fn judge_arrivals(file: &[u8], h: Header, places: usize) -> Verdict
 
 // 4 at the first faulty server, then 5.
 fn admit(file: &[u8], h: Header) -> Verdict
-    requires { ⌜ Placed h (length (now file)) ⌝ }
+    requires { ⌜ Sized h ⌝ }
     ensures { λ r. ⌜ onPaper r ≡ admission (h .frame) (workUnder h (now (file .entry)) .table) ⌝ }
 {
     let frame = h.frame.ticks;
@@ -86,7 +85,7 @@ fn admit(file: &[u8], h: Header) -> Verdict
     while k < servers {
         let found = booking::share_of(
             h.frame,
-            reader::booking_from(file, offset + sizes::SERVER_BYTES * k),
+            reader::booking_from(file, offset, sizes::SERVER_BYTES * k),
         );
         if found.faulty {
             return Verdict::Refused(Refusal::FaultyServer(k));

@@ -31,9 +31,9 @@ bookings = record { type = Booking.the-type; laws = Booking′.the-laws; lying =
 abbrev pub arrivals : Kind
 arrivals = record { type = Arrival.the-type; laws = Arrival′.the-laws; lying = arrivalAt }
 
--- The two promises, of every kind.
+-- The functions that take a record of a kind, by what they are passed; of those that the walks call, also what they promise.
 module _ (k : Kind) where
-  -- on a slice and a number: the record that starts at that byte
+  -- a slice and a number: the record that starts at that byte
   abbrev pub byByte : Ended
   byByte = record {
     signature = record { lifetimes = 1; outlives = []; params = shrSlice 0 tt (λ _. u8) ∷ plain (λ _. usize) ∷ []; result = plain (λ _. row (k .type)) };
@@ -43,7 +43,7 @@ module _ (k : Kind) where
   abbrev pub byByte-says : {M : Type 1} (𝓤 : URA M) → Clauses 𝓤 byByte
   byByte-says 𝓤 = ensuring byByte (λ κs a r e. fact 𝓤 (r ≡ k .lying (now (a .0)) (a .1 .0)))
 
-  -- on a reader: the record at its place
+  -- a reader: the record at its place
   abbrev pub byReader : Ended
   byReader = record {
     signature = record { lifetimes = 1; outlives = []; params = plain Held ∷ []; result = plain (λ _. row (k .type)) };
@@ -52,3 +52,15 @@ module _ (k : Kind) where
 
   abbrev pub byReader-says : {M : Type 1} (𝓤 : URA M) → Clauses 𝓤 byReader
   byReader-says 𝓤 = ensuring byReader (λ κs a r e. fact 𝓤 (r ≡ k .lying (now (a .0 .file)) (a .0 .at)))
+
+  -- a slice and two numbers: the record that starts so many bytes behind a block
+  abbrev pub byBlock : Ended
+  byBlock = record {
+    signature = record {
+      lifetimes = 1;
+      outlives = [];
+      params = shrSlice 0 tt (λ _. u8) ∷ plain (λ _. usize) ∷ plain (λ _. usize) ∷ [];
+      result = plain (λ _. row (k .type));
+    };
+    kept = (yes, (yes, (yes, tt)));
+  }

@@ -1,6 +1,7 @@
--- Laws of a reader's place: one that is sent behind the end stands at the end, where there is nothing either, which counts 0.
-use Prim.Native.Nat.{ℕ, _≤_}
+-- The record where a reader stands that was sent to a block and on to a record is the record at that byte; behind the end both have every number 0.
+use Prim.Native.Nat.{ℕ, _+_, _≤_}
 use borrow.Author.Tests.{leb-true, leb-false}
+use denote.Ref.{RefT, now}
 use lib.Dec.{leb}
 use lib.ListN.{length}
 use mathlib.Core.Bool.{Bool, true, false}
@@ -9,21 +10,24 @@ use mathlib.Core.Path.{_≡_, refl, sym, _∙_, ap}
 use native.Mathlib.Omega.{arith}
 use Rattle.workfile.specs.Layout.{bookingAt, arrivalAt}
 use Rattle.workfile.specs.LayoutLaws.{bookingAt-behind, arrivalAt-behind}
-use Rattle.reader.specs.Reader.{placeAfter}
+use Rattle.reader.specs.Reader.{atStart, movedOn}
 
--- what is the same everywhere behind the end is the same at a byte and where a reader stands that was sent to that byte
+-- what is the same everywhere behind the end is the same at a byte and where a reader stands that was sent there by way of a block
 sent : {X : Type 0} (of : List ℕ → ℕ → X) (nothing : X) → ((file : List ℕ) (at : ℕ) → length file ≤ at → of file at ≡ nothing)
-    → (file : List ℕ) (at : ℕ) → of file (placeAfter file 0 at) ≡ of file at
-sent of nothing behind file at = go (leb (length file) at) refl
+    → (s : RefT (List ℕ)) (block further : ℕ) → of (now s) (movedOn (movedOn (atStart s) block) further .at) ≡ of (now s) (block + further)
+sent of nothing behind s block further = go (leb (length (now s)) (block + further)) refl
   where
-    go : (b : Bool) → leb (length file) at ≡ b → of file (placeAfter file 0 at) ≡ of file at
+    go : (b : Bool) → leb (length (now s)) (block + further) ≡ b
+        → of (now s) (movedOn (movedOn (atStart s) block) further .at) ≡ of (now s) (block + further)
     go true so =
-        behind file (placeAfter file 0 at) (omega (arith, leb-true (length file) at so))
-        ∙ sym (behind file at (leb-true (length file) at so))
-    go false so = ap (of file) (omega (arith, leb-false (length file) at so))
+        let over = leb-true (length (now s)) (block + further) so in
+        behind (now s) (movedOn (movedOn (atStart s) block) further .at) (omega (arith, over)) ∙ sym (behind (now s) (block + further) over)
+    go false so = ap (of (now s)) (omega (arith, leb-false (length (now s)) (block + further) so))
 
-pub bookingAt-sent : (file : List ℕ) (at : ℕ) → bookingAt file (placeAfter file 0 at) ≡ bookingAt file at
+pub bookingAt-sent : (s : RefT (List ℕ)) (block further : ℕ)
+    → bookingAt (now s) (movedOn (movedOn (atStart s) block) further .at) ≡ bookingAt (now s) (block + further)
 bookingAt-sent = sent bookingAt _ bookingAt-behind
 
-pub arrivalAt-sent : (file : List ℕ) (at : ℕ) → arrivalAt file (placeAfter file 0 at) ≡ arrivalAt file at
+pub arrivalAt-sent : (s : RefT (List ℕ)) (block further : ℕ)
+    → arrivalAt (now s) (movedOn (movedOn (atStart s) block) further .at) ≡ arrivalAt (now s) (block + further)
 arrivalAt-sent = sent arrivalAt _ arrivalAt-behind

@@ -3,6 +3,7 @@
 // The functions over the struct are few and thin: each takes it apart and calls one on the bytes and the place. The two with plain
 // parameters, below them, are for everyone else.
 ghost use mathlib.Core.Path.{_≡_};
+ghost use Prim.Native.Nat.{_+_};
 ghost use Rattle.reader.specs.Reader.{atStart, placeAfter, movedOn};
 ghost use Rattle.workfile.specs.Layout.{bookingAt, arrivalAt};
 use arrival::Arrival;
@@ -20,7 +21,7 @@ pub fn new<'a>(file: &'a [u8]) -> Reader<'a>
     Reader { file, at: 0 }
 }
 
-// The reader so many bytes further on, at most at the end.
+// The reader so many bytes further on, at most at the end; one that stands behind the end goes back to it.
 pub fn moved_on<'a>(r: Reader<'a>, bytes: usize) -> Reader<'a>
     ensures { λ q. ⌜ q ≡ movedOn (r .entry) bytes ⌝ }
 {
@@ -42,18 +43,18 @@ pub fn take_arrival<'a>(r: Reader<'a>) -> Arrival
     workfile::arrival_at(r.file, r.at)
 }
 
-// The server record that starts at a byte of the file, taken by a reader that has gone there.
-pub fn booking_from(file: &[u8], at: usize) -> Booking
-    ensures { λ r. ⌜ r ≡ bookingAt (now (file .entry)) at ⌝ }
+// The server record that starts so many bytes behind the start of its block: the reader goes to the block, and on from there to the record.
+pub fn booking_from(file: &[u8], block: usize, further: usize) -> Booking
+    ensures { λ r. ⌜ r ≡ bookingAt (now (file .entry)) (block + further) ⌝ }
 {
-    take_booking(moved_on(new(file), at))
+    take_booking(moved_on(moved_on(new(file), block), further))
 }
 
-// The arrival record that starts at a byte of the file, taken likewise.
-pub fn arrival_from(file: &[u8], at: usize) -> Arrival
-    ensures { λ r. ⌜ r ≡ arrivalAt (now (file .entry)) at ⌝ }
+// The arrival record that starts so many bytes behind the start of its block, taken likewise.
+pub fn arrival_from(file: &[u8], block: usize, further: usize) -> Arrival
+    ensures { λ r. ⌜ r ≡ arrivalAt (now (file .entry)) (block + further) ⌝ }
 {
-    take_arrival(moved_on(new(file), at))
+    take_arrival(moved_on(moved_on(new(file), block), further))
 }
 
 // The place so many bytes behind another. The two are not added where their sum would lie behind the end, so nothing overflows.

@@ -100,7 +100,7 @@ fn shares(file: &[u8]) -> Length
     while k < servers {
         let found = booking::share_of(
             h.frame,
-            reader::booking_from(file, offset + sizes::SERVER_BYTES * k),
+            reader::booking_from(file, offset, sizes::SERVER_BYTES * k),
         );
         sum += found.share.ticks;
         k += 1;
@@ -153,7 +153,7 @@ fn job_lines(text: &mut [u8], next: usize, file: &[u8], finishes: &[u32]) -> usi
     let mut at = next;
     let mut k = 0;
     while k < jobs {
-        let a = reader::arrival_from(file, offset + sizes::ARRIVAL_BYTES * k);
+        let a = reader::arrival_from(file, offset, sizes::ARRIVAL_BYTES * k);
         at = lines::job(text, at, k, a, finishes[k]);
         k += 1;
     }

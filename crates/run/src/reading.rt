@@ -14,7 +14,7 @@ pub(crate) fn arrival_of(file: &[u8], k: usize) -> Arrival
 {
     let h = workfile::header_of(file);
     let from = h.arrivals.offset;
-    reader::arrival_from(file, from + sizes::ARRIVAL_BYTES * k)
+    reader::arrival_from(file, from, sizes::ARRIVAL_BYTES * k)
 }
 
 // The moment of arrival j, or the horizon behind the last one.

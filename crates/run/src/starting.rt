@@ -17,7 +17,7 @@ pub(crate) fn start(file: &[u8]) -> Dispatcher
     let mut servers = [server::blank(); sizes::MOST_SERVERS];
     let mut k = 0;
     while k < count {
-        servers[k] = server::fresh(reader::booking_from(file, offset + sizes::SERVER_BYTES * k));
+        servers[k] = server::fresh(reader::booking_from(file, offset, sizes::SERVER_BYTES * k));
         k += 1;
     }
     Dispatcher {

@@ -24,9 +24,6 @@ loop-holds c = (omega arith, sofar-none _ _)
 mul-booking-from : tie.Need-mul-booking-from Inv-loop μ-loop
 mul-booking-from c = omega arith
 
-add-booking-from : tie.Need-add-booking-from Inv-loop μ-loop
-add-booking-from c = omega arith
-
 booking-from-requires : tie.Need-booking-from-requires Inv-loop μ-loop
 booking-from-requires c κs = search needs
 
@@ -58,7 +55,7 @@ one-more c =
 
 add-sum : tie.Need-add-sum Inv-loop μ-loop
 add-sum c =
-    let sized = c .before .before .before .before .before .before .before .pre .sized in
+    let sized = c .before .before .before .before .before .before .before .pre in
     omega (
       arith,
       sofar-le _ _ (one-more c),
@@ -103,7 +100,6 @@ admit-spec =
     μ-loop
     loop-holds
     mul-booking-from
-    add-booking-from
     booking-from-requires
     share-of-requires
     returns

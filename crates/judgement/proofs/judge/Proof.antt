@@ -5,7 +5,7 @@ use mathlib.Core.Bool.{false}
 use mathlib.Core.Path.{_≡_, sym, _∙_}
 use native.Mathlib.Omega.{arith}
 use Rattle.judgement.specs.Judgement.{lengthOutOfRange, sizesOutOfRange, layoutBroken}
-use Rattle.judgement.specs.JudgementLaws.{sized, narrow, laid, judged-length, judged-sizes, judged-layout, judged-work}
+use Rattle.judgement.specs.JudgementLaws.{sized, narrow, judged-length, judged-sizes, judged-layout, judged-work}
 use Rattle.judgement.proofs.judge.Statement.{statement}
 use Rattle.judgement.proofs.judge.Tie as tie
 
@@ -55,7 +55,7 @@ returns-3 c =
     (sym (c .before .is-layout-broken .ensures) ∙ c .if3 .taken))
 
 judge-work-requires : tie.Need-judge-work-requires
-judge-work-requires c κs = record { sized = sized _ (in-range (c .before .before)); laid = laid _ _ (in-place c) }
+judge-work-requires c κs = sized _ (in-range (c .before .before))
 
 returns-4 : tie.Need-returns-4
 returns-4 c =

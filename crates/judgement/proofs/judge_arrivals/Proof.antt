@@ -25,9 +25,6 @@ loop-holds c = (omega arith, passed-none _)
 mul-arrival-from : tie.Need-mul-arrival-from Inv-loop μ-loop
 mul-arrival-from c = omega arith
 
-add-arrival-from : tie.Need-add-arrival-from Inv-loop μ-loop
-add-arrival-from c = omega arith
-
 arrival-from-requires : tie.Need-arrival-from-requires Inv-loop μ-loop
 arrival-from-requires c κs = search needs
 
@@ -106,7 +103,6 @@ judge-arrivals-spec =
     μ-loop
     loop-holds
     mul-arrival-from
-    add-arrival-from
     arrival-from-requires
     is-faulty-requires
     returns

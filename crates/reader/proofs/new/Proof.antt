@@ -6,7 +6,7 @@ use lib.Dec.{lit<}
 use lib.ListN.{length}
 use mathlib.Core.List.{List, [], _∷_}
 use mathlib.Core.Path.{refl}
-use base.Fml.{Lft, Share, ftrue, flft}
+use base.Fml.{Lft, Share}
 use base.Logic.{SProp, ent, emp, via, fst∗}
 use contract.Monad.{Fun}
 use contract.Running.{givenOf, tables, tablesOf}
@@ -37,7 +37,7 @@ use types.Run.{look, init, forget, stop, from, load, lit, and-then, no-more, ass
 use Rattle.reader.specs.declared.Reader.{Reader}
 use Rattle.reader.proofs.Reader as T
 use Rattle.reader.proofs.Reader.Laws as T′
-use Rattle.reader.proofs.Held.{Slice}
+use Rattle.reader.proofs.Held.{token, Slice}
 use Rattle.reader.proofs.new as new
 use Rattle.reader.proofs.new.Code as code
 use Rattle.reader.proofs.new.Key.{name}
@@ -62,7 +62,7 @@ module _ {M : Type 1} (𝓤 : URA M) (H : Heap 𝓤) (A : Atoms 𝓤) (W : Given
 
   exits : ent 𝓤 Pre (Post (T′.lowered made))
   exits =
-      qed W ((‵ (flft κ q) ⊛ ‵ ftrue) ∷ ‵ (owns (ShrSlice (named 0) κ u8 ∷ []) (s, tt) (slice-vals s, tt)) ∷ []) ∵
+      qed W (token κ q ∷ ‵ (owns (ShrSlice (named 0) κ u8 ∷ []) (s, tt) (slice-vals s, tt)) ∷ []) ∵
       suffices ! _ (ends-at 𝓤 H A new.ended stayed (new.clauses 𝓤 H A mem run) W (((κ, tt), (q, tt), tt, (s, tt), (slice-vals s, tt)), tt)
       (T′.lowered made) made (tt, tt) (tt, tt)) $ says ! refl $ frame ! $
       fsplit ! $ use1 W (‵ (Slice κ s) ⊛ ‵ (Slice κ s)) (shr-slice-copy 𝓤 H A W (named 0) κ u8 .twice s (slice-vals s)) $ split ! $

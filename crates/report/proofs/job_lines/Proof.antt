@@ -4,7 +4,7 @@ use lib.ListN.{length, getD}
 use mathlib.Core.Path.{_≡_, _∙_, ap}
 use native.Mathlib.Omega.{arith}
 use Rattle.arrival.specs.declared.Arrival.{Arrival}
-use Rattle.books.specs.Accepted.{arrival-placed, arrival-read, arrivals-read}
+use Rattle.books.specs.Accepted.{arrival-read, arrivals-read}
 use Rattle.report.specs.DayReport.{jobWith}
 use Rattle.report.specs.Told.{finishOf, jobIn}
 use Rattle.text.specs.Line.{each}
@@ -33,11 +33,6 @@ here c = omega (arith, c .loop-test .taken, arrivals-read _ (c .before .before .
 
 mul-arrival-from : tie.Need-mul-arrival-from Inv-loop μ-loop
 mul-arrival-from c = omega (arith, here c)
-
-add-arrival-from : tie.Need-add-arrival-from Inv-loop μ-loop
-add-arrival-from c =
-    let read = c .before .before .header-of .ensures in
-    omega (arith, here c, arrival-placed _ read (c .before .before .before .before .before .before .pre .0) (c .before .loop .k) (omega (arith, c .loop-test .taken, arrivals-read _ read)))
 
 arrival-from-requires : tie.Need-arrival-from-requires Inv-loop μ-loop
 arrival-from-requires c κs = tt
@@ -86,7 +81,6 @@ job-lines-spec =
     header-of-requires
     loop-holds
     mul-arrival-from
-    add-arrival-from
     arrival-from-requires
     mul-job
     shared-slice-read-job

@@ -11,7 +11,7 @@ use Rattle.booking.specs.declared.Booking.{Booking}
 use Rattle.booking.specs.AdmissionLaws.{Sofar, sofar-none, sofar-more, sofar-le}
 use Rattle.booking.specs.Share.{faulty, shareOf}
 use Rattle.booking.specs.ShareLaws.{Sound, shareOf-faulty}
-use Rattle.books.specs.Accepted.{booking-placed, booking-read, frame-read, servers-read}
+use Rattle.books.specs.Accepted.{booking-read, frame-read, servers-read}
 use Rattle.clock.specs.declared.Length.{Length}
 use Rattle.workfile.specs.Work.{work}
 use Rattle.report.proofs.shares.Statement.{statement}
@@ -39,17 +39,12 @@ header-of-requires c κs = tt
 loop-holds : tie.Need-loop-holds Inv-loop μ-loop
 loop-holds c = (omega arith, sofar-none _ _)
 
--- at a turn: the record of server k lies in the file
+-- at a turn: server k is one of the file's, which has few
 here : (c : tie.In-loop Inv-loop μ-loop) → c .before .loop .k ≤ 64
 here c = omega (arith, c .loop-test .taken, servers-read _ (c .before .before .header-of .ensures), c .before .before .before .before .pre .fit .servers)
 
 mul-booking-from : tie.Need-mul-booking-from Inv-loop μ-loop
 mul-booking-from c = omega (arith, here c)
-
-add-booking-from : tie.Need-add-booking-from Inv-loop μ-loop
-add-booking-from c =
-    let read = c .before .before .header-of .ensures in
-    omega (arith, here c, booking-placed _ read (c .before .before .before .before .pre) (c .before .loop .k) (omega (arith, c .loop-test .taken, servers-read _ read)))
 
 booking-from-requires : tie.Need-booking-from-requires Inv-loop μ-loop
 booking-from-requires c κs = tt
@@ -112,7 +107,6 @@ shares-spec =
     header-of-requires
     loop-holds
     mul-booking-from
-    add-booking-from
     booking-from-requires
     share-of-requires
     add-sum

@@ -4,7 +4,7 @@ use borrow.Author.Needs.{needs}
 use mathlib.Core.Path.{_≡_}
 use native.Mathlib.Numerals.{add-one}
 use native.Mathlib.Omega.{arith}
-use Rattle.books.specs.Accepted.{frame-read, servers-read, booking-read, booking-placed}
+use Rattle.books.specs.Accepted.{frame-read, servers-read, booking-read}
 use Rattle.counting.specs.Places.{places}
 use Rattle.dispatcher.specs.Start.{startAt, atStart}
 use Rattle.dispatcher.specs.StartLaws.{firstOf, start-none, start-more}
@@ -35,16 +35,6 @@ mul-booking-from c =
     let start = c .before .before .before .before .before .before in
     let count = servers-read (start .args .file .now) (c .before .before .before .before .header-of .ensures) in
     omega (arith, c .loop-test .taken, count, start .pre .fit .servers)
-
-add-booking-from : tie.Need-add-booking-from Inv-loop μ-loop
-add-booking-from c =
-    let start = c .before .before .before .before .before .before in
-    let read = c .before .before .before .before .header-of .ensures in
-    let count = servers-read (start .args .file .now) read in
-    omega (
-      arith,
-      booking-placed (start .args .file .now) read (start .pre) (c .before .loop .k) (omega (arith, c .loop-test .taken, count)),
-    )
 
 booking-from-requires : tie.Need-booking-from-requires Inv-loop μ-loop
 booking-from-requires c κs = search needs
@@ -107,7 +97,6 @@ start-spec =
     blank-requires
     loop-holds
     mul-booking-from
-    add-booking-from
     booking-from-requires
     fresh-requires
     mul-servers
