@@ -1,9 +1,13 @@
-// Plays live moves by value and writes every answer: File P of document 01, waking, and the refusals of a live table, an arrival and a
-// tick. What it writes is held to the file `stdout`.
-mod play;
+// Plays lists of live moves twice, on one dispatcher that is kept and lent to each move, and by value, and writes every answer: the two
+// blocks of a list are the same. The lists are File P of document 01, waking, and the refusals of an arrival and of a tick; tables that
+// are only opened show the refusals of a live table. What it writes is held to the file `stdout`.
+mod by_value;
+mod lent;
 mod say;
+mod script;
 
-use play::TICK;
+use clock::Length;
+use script::TICK;
 
 fn main() {
     file_p();
@@ -19,60 +23,81 @@ fn main() {
     clock_end();
 }
 
+// Opens the table, and plays the list from its dispatcher on in both ways, writing what the dispatcher then is.
+fn both(table: &[u64], frame: u64, list: &[u64]) {
+    let opened = opening::open_table(table, Length { ticks: frame });
+    let answer = opened.answer;
+    let start = opened.dispatcher;
+    let count = script::count(list);
+    say::opening(frame, table.len(), answer);
+    say::line(b"lent:");
+    say::servers(lent::play(start, list, count));
+    say::line(b"by value:");
+    say::servers(by_value::play(start, list, count));
+}
+
+// Opens the table, and writes its dispatcher.
+fn opened(table: &[u64], frame: u64) {
+    let opened = opening::open_table(table, Length { ticks: frame });
+    let answer = opened.answer;
+    say::opening(frame, table.len(), answer);
+    say::servers(opened.dispatcher);
+}
+
 // File P: H 10, N 12, servers (2, 5) and (3, 5), arrivals (0, 0, 5), (0, 1, 3), (6, 1, 2).
 fn file_p() {
     say::line(b"File P");
     let moves = [0, 5, 1, 1, 3, 1, TICK, 0, 6, 1, 2, 1, TICK, 0, 6];
-    play::moves(&[2, 5, 3, 5], 10, &moves);
+    both(&[2, 5, 3, 5], 10, &moves);
 }
 
 // Server (2, 6) with c 1 and d 6 keeps them at 2, as 6 < 8, renews at 3, as 6 = 6, and renews when its deadline has passed.
 fn waking() {
     say::line(b"waking early");
-    play::moves(&[2, 6], 6, &[0, 1, 1, TICK, 0, 2, 0, 1, 1]);
+    both(&[2, 6], 6, &[0, 1, 1, TICK, 0, 2, 0, 1, 1]);
     say::line(b"waking at equality");
-    play::moves(&[2, 6], 6, &[0, 1, 1, TICK, 0, 3, 0, 1, 1]);
+    both(&[2, 6], 6, &[0, 1, 1, TICK, 0, 3, 0, 1, 1]);
     say::line(b"waking late");
-    play::moves(&[2, 6], 6, &[0, 1, 1, TICK, 0, 9, 0, 1, 1]);
+    both(&[2, 6], 6, &[0, 1, 1, TICK, 0, 9, 0, 1, 1]);
 }
 
 // 2 for the frame, at its edges.
 fn frames() {
     say::line(b"tables with no server");
-    play::moves(&[], 1, &[]);
-    play::moves(&[], 604800, &[]);
-    play::moves(&[], 0, &[]);
-    play::moves(&[], 604801, &[]);
-    play::moves(&[], 18446744073709551615, &[]);
+    opened(&[], 1);
+    opened(&[], 604800);
+    opened(&[], 0);
+    opened(&[], 604801);
+    opened(&[], 18446744073709551615);
 }
 
 // 2 for the count of numbers.
 fn odd_lists() {
     say::line(b"an odd count of numbers");
-    play::moves(&[1], 1, &[]);
-    play::moves(&[1, 1, 1], 1, &[]);
+    opened(&[1], 1);
+    opened(&[1, 1, 1], 1);
 }
 
 // 4 for each fault, and at a place other than 0.
 fn faulty_servers() {
     say::line(b"a faulty server");
-    play::moves(&[1, 0], 20, &[]);
-    play::moves(&[1, 3], 20, &[]);
-    play::moves(&[0, 4], 20, &[]);
-    play::moves(&[5, 4], 20, &[]);
-    play::moves(&[1, 4, 1, 4, 1, 40], 20, &[]);
+    opened(&[1, 0], 20);
+    opened(&[1, 3], 20);
+    opened(&[0, 4], 20);
+    opened(&[5, 4], 20);
+    opened(&[1, 4, 1, 4, 1, 40], 20);
 }
 
 // 5 at its edge, and 4 before it.
 fn shares() {
     say::line(b"shares of 20 and of 21");
-    play::moves(&[1, 4, 3, 10, 9, 20], 20, &[]);
-    play::moves(&[1, 4, 3, 10, 10, 20], 20, &[]);
+    opened(&[1, 4, 3, 10, 9, 20], 20);
+    opened(&[1, 4, 3, 10, 10, 20], 20);
     say::line(b"a faulty server behind shares that are too large");
-    play::moves(&[20, 20, 20, 20, 0, 20], 20, &[]);
+    opened(&[20, 20, 20, 20, 0, 20], 20);
     say::line(b"the largest numbers");
     let most = 18446744073709551615;
-    play::moves(&[most, most], 20, &[]);
+    opened(&[most, most], 20);
 }
 
 // 64 servers, at the last of which work waits first; equal deadlines go to the lower number. 65 are too many.
@@ -81,10 +106,10 @@ fn many_servers() {
     let mut table = [64; 128];
     budgets_of_one(&mut table);
     let moves = [63, 2, 1, TICK, 0, 1, 7, 1, 1, 5, 1, 1, TICK, 0, 4, 64, 1, 1];
-    play::moves(&table, 64, &moves);
+    both(&table, 64, &moves);
     let mut longer = [64; 130];
     budgets_of_one(&mut longer);
-    play::moves(&longer, 64, &[]);
+    opened(&longer, 64);
 }
 
 // A list of pairs with every Q set to 1.
@@ -101,32 +126,32 @@ fn budgets_of_one(table: &mut [u64]) {
 fn faulty_arrivals() {
     say::line(b"an unknown server");
     let most = 18446744073709551615;
-    play::moves(&[1, 5], 5, &[1, 1, 1, most, 1, 1]);
+    both(&[1, 5], 5, &[1, 1, 1, most, 1, 1]);
     say::line(b"costs out of range and in it");
-    play::moves(&[1, 5], 5, &[0, 0, 1, 0, 604801, 1, 0, most, 1]);
-    play::moves(&[1, 5], 5, &[0, 604800, 1, 0, 1, 1]);
+    both(&[1, 5], 5, &[0, 0, 1, 0, 604801, 1, 0, most, 1]);
+    both(&[1, 5], 5, &[0, 604800, 1, 0, 1, 1]);
 }
 
 // What a refused opening hands back takes moves too.
 fn after_a_refusal() {
     say::line(b"moves after a refused opening");
-    play::moves(&[1], 5, &[0, 1, 1, TICK, 0, 1]);
+    both(&[1], 5, &[0, 1, 1, TICK, 0, 1]);
 }
 
 // 11: a server filled to 4,294,967,295 refuses a cost of 1, and takes it again once a tick is served.
 fn full_server() {
     say::line(b"a full server");
     let filled = [0, 604800, 7101, 0, 282496, 1, 0, 282495, 1, 0, 1, 1];
-    play::moves(&[1, 5], 5, &filled);
+    both(&[1, 5], 5, &filled);
     say::line(b"a full server that is served");
     let served = [0, 604800, 7101, 0, 282495, 1, TICK, 0, 1, 0, 1, 2];
-    play::moves(&[1, 5], 5, &served);
+    both(&[1, 5], 5, &served);
 }
 
 // 10: no tick beyond 2,419,200, where an arrival is still taken.
 fn clock_end() {
     say::line(b"the end of the clock");
-    play::moves(
+    both(
         &[1, 5, 2, 10],
         10,
         &[0, 3, 1, TICK, 0, 2419201, 1, 7, 1, TICK, 0, 1],

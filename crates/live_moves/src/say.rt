@@ -16,30 +16,30 @@ pub(crate) fn line(text: &[u8]) {
 
 // A table by its frame and how many numbers it has.
 pub(crate) fn opening(frame: u64, numbers: usize, answer: Verdict) {
-    words(b"open H ");
-    number(frame);
-    words(b", ");
-    number(numbers as u64);
+    counted(b"open H ", frame);
+    counted(b", ", numbers as u64);
     words(b" numbers: ");
     verdict(answer);
     end();
 }
 
-pub(crate) fn arrival(now: Moment, server: usize, cost: u64, answer: Verdict) {
-    words(b"at ");
-    number(now.tick);
-    words(b" arrival of ");
-    number(cost);
-    words(b" at server ");
-    number(server as u64);
+pub(crate) fn arrival(now: Moment, server: usize, cost: Length, answer: Verdict, written: bool) {
+    if !written {
+        return;
+    }
+    counted(b"at ", now.tick);
+    counted(b" arrival of ", cost.ticks);
+    counted(b" at server ", server as u64);
     words(b": ");
     verdict(answer);
     end();
 }
 
-pub(crate) fn tick(now: Moment, answer: TickAnswer) {
-    words(b"at ");
-    number(now.tick);
+pub(crate) fn tick(now: Moment, answer: TickAnswer, written: bool) {
+    if !written {
+        return;
+    }
+    counted(b"at ", now.tick);
     words(b" tick: ");
     match answer {
         TickAnswer::Idle => words(b"idle"),
@@ -67,30 +67,22 @@ pub(crate) fn servers(d: Dispatcher)
 }
 
 fn head(frame: Length, now: Moment) {
-    words(b"H ");
-    number(frame.ticks);
-    words(b", clock ");
-    number(now.tick);
+    counted(b"H ", frame.ticks);
+    counted(b", clock ", now.tick);
     end();
 }
 
 fn server(i: usize, s: Server) {
-    words(b"server ");
-    number(i as u64);
-    words(b": c ");
-    number(s.remaining.ticks);
-    words(b" d ");
-    number(s.deadline.tick);
-    words(b" w ");
-    number(s.waiting.ticks);
+    counted(b"server ", i as u64);
+    counted(b": c ", s.remaining.ticks);
+    counted(b" d ", s.deadline.tick);
+    counted(b" w ", s.waiting.ticks);
     end();
 }
 
 fn ran(server: usize, deadline: Moment, postponed: bool) {
-    words(b"server ");
-    number(server as u64);
-    words(b" under ");
-    number(deadline.tick);
+    counted(b"server ", server as u64);
+    counted(b" under ", deadline.tick);
     if postponed {
         words(b", postponed");
     }
@@ -104,18 +96,18 @@ fn verdict(answer: Verdict) {
 }
 
 fn refused(why: Refusal) {
-    words(b"refused ");
-    number(refusal::number(why));
-    words(b" at ");
-    number(refusal::place(why) as u64);
+    counted(b"refused ", refusal::number(why));
+    counted(b" at ", refusal::place(why) as u64);
+}
+
+// Words, and the number that they lead to.
+fn counted(text: &[u8], n: u64) {
+    words(text);
+    io::print_decimal(STDOUT_FILENO, n);
 }
 
 fn words(text: &[u8]) {
     io::write_all(STDOUT_FILENO, text);
-}
-
-fn number(n: u64) {
-    io::print_decimal(STDOUT_FILENO, n);
 }
 
 fn end() {

@@ -1,0 +1,4 @@
+pub mod Played
+pub mod PlayedLaws
+pub mod Script
+pub mod ScriptLaws
