@@ -1,7 +1,6 @@
--- `live_moves::lent::play` meets its promise: a walk of its MIR, by hand. At every turn the local holds what the moves so far
--- have made of
--- the dispatcher. For a turn it is lent for a lifetime that is made for it, and taken back, once that has ended, at what the
--- turn left there.
+-- `live_moves::lent::play` meets its promise: a walk of its MIR, by hand. At every turn the local holds what the moves so far have made
+-- of the dispatcher. For a turn it is lent for a lifetime that is made for it, and taken back, once that has ended, at what the turn left
+-- there.
 use mathlib.Core.Path.{_≡_, refl, sym, _∙_, ap, subst}
 use mathlib.Core.WellFounded.{WellFounded, InvImage·wf}
 use lib.WfN.{Nat·lt-wfRel}
@@ -192,9 +191,8 @@ module _ {M : Type 1} (𝓤 : URA M) (H : Heap 𝓤) (A : Atoms 𝓤) (W : Given
     abbrev l : ℕ
     l = local-at E 4 .1
 
-    -- after k moves: the dispatcher in memory; k, and room for what a turn needs; the list and the count, the token, what the
-    -- list owns; and
-    -- what no turn touches
+    -- after k moves: the dispatcher in memory; k, and room for what a turn needs; the list and the count, the token, what the list owns;
+    -- and what no turn touches
     abbrev At : ℕ → List (Item 𝓤)
     At k = ‵ (partAt D.the-row fullShare (at-move k) l 0) ∷ cell E 5 (vint w64 k) ∷ room E 6 ∷ room E 7 ∷ room E 8 ∷ room E 9
         ∷ cell E 2 (sliceVal (b, o) (length xs)) ∷ cell E 3 (vint w64 n) ∷ (‵ (flft κ q) ⊛ ‵ ftrue) ∷ ‵ own-list ∷ cell E 1

@@ -1,8 +1,6 @@
--- `live_moves::lent::turn` meets its promise: a walk of its MIR, by hand. The borrow is opened to read the clock, and closed
--- again; then the
--- walk goes by cases on the move. The dispatcher is passed on at the borrow's own lifetime, share and name, so what the lent
--- move says of it at
--- its end is said of it here.
+-- `live_moves::lent::turn` meets its promise: a walk of its MIR, by hand. The borrow is opened to read the clock, and closed again; then
+-- the walk goes by cases on the move. The dispatcher is passed on at the borrow's own lifetime, share and name, so what the lent move
+-- says of it at its end is said of it here.
 use mathlib.Core.Path.{_≡_, refl, sym, ap, subst}
 use Prim.Native.Nat.{ℕ}
 use native.Mathlib.Omega.{arith}
