@@ -20,7 +20,7 @@ use Rattle.sizes.specs.Sizes.{clockEnd, mostArrivals, mostFrame, mostServers}
 use Rattle.workfile.specs.Layout.{header}
 use Rattle.workfile.specs.Work.{Work, work}
 use Rattle.judgement.specs.Judgement.{lengthOutOfRange, sizesOutOfRange, layoutBroken, backward, late, arrivalJudged, arrivalsJudged, workJudged, judged}
-use Rattle.judgement.specs.JudgementLaws.{sized}
+use Rattle.judgement.specs.JudgementLaws.{Laid, sized, laid}
 
 pub record Fit (w : Work) (places : ℕ) : Type 0 where
   pub frame-from : 1 ≤ w .frame .ticks
@@ -65,20 +65,25 @@ module _ (w : Work) where
 
 module _ (file : List ℕ) (places : ℕ) (e : judged file places ≡ accepted) where
   -- 1, 2 and 3
-  three-passed : (sizesOutOfRange (header file) ≡ false) × (workJudged (work file) places ≡ accepted)
+  three-passed : (sizesOutOfRange (header file) ≡ false) × (layoutBroken (header file) (length file) ≡ false)
+      × (workJudged (work file) places ≡ accepted)
   unfolding judged
   three-passed =
       let one = accepted-test 1 0 (lengthOutOfRange (length file)) _ e in
       let two = accepted-test 2 0 (sizesOutOfRange (header file)) _ (one .1) in
       let three = accepted-test 3 0 (layoutBroken (header file) (length file)) _ (two .1) in
-      (two .0, three .1)
+      (two .0, three .0, three .1)
 
-  -- the work of an accepted file fits
+  -- the records of an accepted file lie in the file, each whole
+  pub judged-laid : Laid (header file) (length file)
+  judged-laid = laid (header file) (length file) (three-passed .1)
+
+  -- and its work fits
   pub judged-fit : Fit (work file) places
   unfolding workJudged work
   judged-fit =
       let w = work file in
-      let five = accepted-both (admission (w .frame) (w .table)) _ (three-passed .1) in
+      let five = accepted-both (admission (w .frame) (w .table)) _ (three-passed .2) in
       let eight = accepted-both (arrivalsJudged w (w .arrivals)) _ (five .1) in
       let nine = accepted-test 9 0 (ltb places (w .arrivals)) _ (eight .1) in
       let fits = sized (header file) (three-passed .0) in

@@ -1,5 +1,5 @@
--- The judgement of a file case by case, and what a header has that passes 2.
-use Prim.Native.Nat.{ℕ, _≤_, _<_}
+-- The judgement of a file case by case, and what a header has that passes 2 and 3.
+use Prim.Native.Nat.{ℕ, _+_, _*_, _≤_, _<_}
 use borrow.Author.Tests.{ltb-false}
 use lib.Dec.{ltb}
 use lib.ListN.{getD, length}
@@ -10,7 +10,7 @@ use Rattle.booking.specs.Admission.{admission}
 use Rattle.counting.specs.Tests.{none-of-three}
 use Rattle.numbers.specs.WordLaws.{word-fits}
 use Rattle.refusal.specs.Refusals.{refused, accepted}
-use Rattle.sizes.specs.Sizes.{clockEnd, mostArrivals, mostFrame, mostServers}
+use Rattle.sizes.specs.Sizes.{arrivalBytes, clockEnd, headerBytes, mostArrivals, mostFrame, mostServers, serverBytes}
 use Rattle.workfile.specs.declared.Header.{Header}
 use Rattle.workfile.specs.Layout.{header}
 use Rattle.workfile.specs.Work.{Work, workUnder, work}
@@ -47,6 +47,21 @@ pub narrow : (file : List ℕ) (h : Header) → h ≡ header file → ((i : ℕ)
 unfolding header
 narrow file h read byte =
     record { servers = rw read (word-fits file 12 byte); arrivals = rw read (word-fits file 20 byte) }
+
+-- what a header has beside so many bytes that is not refused by 3
+pub record Laid (h : Header) (bytes : ℕ) : Type 0 where
+  pub servers-from : headerBytes ≤ h .servers .offset
+  pub arrivals-from : h .servers .offset + serverBytes * h .servers .count ≤ h .arrivals .offset
+  pub arrivals-to : h .arrivals .offset + arrivalBytes * h .arrivals .count ≤ bytes
+
+pub laid : (h : Header) (bytes : ℕ) → layoutBroken h bytes ≡ false → Laid h bytes
+laid h bytes e =
+    let tests = none-of-three (ltb (h .servers .offset) headerBytes) _ _ e in
+    record {
+      servers-from = ltb-false _ _ (tests .0);
+      arrivals-from = ltb-false _ _ (tests .1);
+      arrivals-to = ltb-false _ _ (tests .2);
+    }
 
 -- 1, then 2 and 3 by the header as it was read, then the work
 module _ (file : List ℕ) (places : ℕ) where

@@ -19,7 +19,7 @@ use types.Part.{whole, sub, look-in}
 use types.Run.{look, init, forget, stop, from, load, Finds, Walks, Opds, look-raw, store-raw, hop, fld, of-opd, assigns, land, returns}
 use types.SemTy.{Body}
 use sound.WpLaws.{FmC}
-use denote.RattleType.{owns, RattleType}
+use denote.RattleType.{RattleType}
 use denote.Laws.{Is, shows}
 use denote.Memory.{mem, cellAt}
 use denote.Ref.{MutRef}
@@ -36,7 +36,7 @@ use denote.Triple.Walked.{says}
 use Rattle.dispatcher.specs.declared.Dispatcher.{Dispatcher}
 use Rattle.dispatcher.proofs.Dispatcher as D
 use Rattle.dispatcher.proofs.Dispatcher.Laws as D′
-use Rattle.outcome.specs.WalkSteps.{ensured-tells}
+use Rattle.walks.specs.Steps.{ensured-tells}
 
 -- A dispatcher's machine value, and that it has its type.
 
@@ -138,7 +138,7 @@ module _ {M : Type 1} {𝓤 : URA M} {H : Heap 𝓤} {A : Atoms 𝓤} {K : Type 
       opens t tt D.the-row {h = d} b o (λ vs.
       spelt t D.the-row (Is D.the-row) (shows 𝓤 H A D.the-row) dVals (LL.tells D.the-type D′.the-laws) fullShare d vs b o $
       move t (1 ∷ []) $ peeks t D.the-row (Is D.the-row) (shows 𝓤 H A D.the-row) d (dVals d) (λ is.
-      -- [what the dispatcher owns; its cell; the open borrow; obs; auth; _j; _i; _1; room for _0; …]
+      -- [what the dispatcher owns; its cell; the open borrow; what observes the reference's value; what holds it; _j; _i; _1; room for _0; …]
       assigns t (of-opd t (load t (from t (hop t (look t 7 refl) (stop t))) (look-raw t 1 refl)))
       (at-local t at-j (stop t)) (init t 5 refl (d-good 𝓤 H A W d is)) $
       use1 W (raw (c .pre x)) goes $ calls-at t fm c met x os (λ v.
@@ -147,7 +147,7 @@ module _ {M : Type 1} {𝓤 : URA M} {H : Heap 𝓤} {A : Atoms 𝓤} {K : Type 
       let now-known = known r v is-r in
       land t (at-local t at-i (stop t)) (init t 5 refl (now-known .good)) $
       rewrite t 5 (λ (z : Val). ‵ (fat fullShare (ty B) lᵢ 0 z)) (now-known .value) refl $
-      -- [the dispatcher's cell; the open borrow; obs; auth; _j; _i; _1; room for _0; …]
+      -- [the dispatcher's cell; the open borrow; what observes the reference's value; what holds it; _j; _i; _1; room for _0; …]
       assigns t (of-opd t (load t (at-local t at-i (fld t refl (stop t))) (look-in t 5 (sub t 1 refl (whole t)))))
       (from t (hop t (look t 6 refl) (stop t))) (store-raw t 0 refl (d-good 𝓤 H A W (B .left r) (now-known .left-is))) $
       assigns t (of-opd t (load t (at-local t at-i (fld t refl (stop t))) (look-in t 5 (sub t 0 refl (whole t)))))

@@ -1,7 +1,7 @@
-// The same moves on a dispatcher that is passed and handed back.
+// The moves of a list on a dispatcher that is passed and handed back.
 ghost use mathlib.Core.Path.{_≡_};
 ghost use Rattle.dispatcher.specs.Within.{Within};
-ghost use Rattle.live_moves.specs.Played.{after, played};
+ghost use Rattle.live_moves.specs.Played.{movedBy, played};
 use crate::say;
 use crate::script;
 use crate::script::Move;
@@ -25,7 +25,7 @@ pub(crate) fn play(start: Dispatcher, list: &[u64], count: u64) -> Dispatcher
 // One move, and its answer written.
 fn turn(d: Dispatcher, m: Move) -> Dispatcher
     requires { ⌜ Within d ⌝ }
-    ensures { λ r. ⌜ r ≡ after d m ⌝ }
+    ensures { λ r. ⌜ r ≡ movedBy d m ⌝ }
     ensures { λ r. ⌜ Within r ⌝ }
 {
     let now = d.clock;

@@ -1,7 +1,7 @@
 // The live loop: one dispatcher is kept, and lent to each move, which alters it there.
 ghost use mathlib.Core.Path.{_≡_};
 ghost use Rattle.dispatcher.specs.Within.{Within};
-ghost use Rattle.live_moves.specs.Played.{after, played};
+ghost use Rattle.live_moves.specs.Played.{movedBy, played};
 use crate::say;
 use crate::script;
 use crate::script::Move;
@@ -25,7 +25,7 @@ pub(crate) fn play(start: Dispatcher, list: &[u64], count: u64) -> Dispatcher
 // One move, and its answer written.
 fn turn(d: &mut Dispatcher, m: Move)
     requires { ⌜ Within (now d) ⌝ }
-    ensures { λ _. ⌜ now (d .exit) ≡ after (now (d .entry)) m ⌝ }
+    ensures { λ _. ⌜ now (d .exit) ≡ movedBy (now (d .entry)) m ⌝ }
     ensures { λ _. ⌜ Within (now (d .exit)) ⌝ }
 {
     let now = d.clock;

@@ -1,9 +1,10 @@
-// A list of numbers as moves.
+// A list of numbers as moves. Three numbers are a server, the cost of an arrival there, and how often that move is made; or a tick, 0, and how
+// often.
 ghost use mathlib.Core.Path.{_≡_};
 ghost use Rattle.live_moves.specs.Script.{moveAt, moveOf};
 use clock::Length;
 
-// Three numbers are a server, the cost of an arrival there, and how often that move is made; or a tick, 0, and how often.
+// A tick, where a server's number would stand.
 pub(crate) const TICK: u64 = 1001;
 
 // Of a move that is made often only the last answers are written.

@@ -1,3 +1,1 @@
 pub mod OneOutcome
-pub mod WalkSteps
-pub mod Walked

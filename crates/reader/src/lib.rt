@@ -1,7 +1,7 @@
 // A reader of a work file: the lent bytes and a place in them. It copies no block: a record is taken where it lies.
 //
-// The functions over the struct are few and thin: each takes it apart and calls one on the bytes and the place. The two with plain
-// parameters, below them, are for everyone else.
+// The functions over the struct are few and thin: each but `new` takes it apart and calls one on the bytes and the place. The two with
+// plain parameters, below them, are for everyone else.
 ghost use mathlib.Core.Path.{_≡_};
 ghost use Prim.Native.Nat.{_+_};
 ghost use Rattle.reader.specs.Reader.{atStart, placeAfter, movedOn};

@@ -40,8 +40,8 @@ use Rattle.dispatcher.proofs.arrival as by-value
 use Rattle.dispatcher.specs.Within.{Within}
 use Rattle.dispatcher.specs.declared.Arrived.{Arrived}
 use Rattle.dispatcher.specs.declared.Dispatcher.{Dispatcher}
-use Rattle.outcome.specs.WalkSteps.{both-said, says-both}
 use Rattle.refusal.proofs.Verdict as R
+use Rattle.walks.specs.Steps.{both-said, says-both}
 use Rattle.live_loop.proofs.Walk.{dVals, Back, Known, moves, asks, tells, hands-back}
 use Rattle.live_loop.proofs.arrival as lent
 use Rattle.live_loop.proofs.arrival.Code as code

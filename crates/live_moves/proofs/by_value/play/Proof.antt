@@ -4,7 +4,7 @@ use borrow.Author.Needs.{needs}
 use mathlib.Core.Path.{_≡_, ap, ap₂, _∙_}
 use native.Mathlib.Omega.{arith}
 use Rattle.dispatcher.specs.Within.{Within}
-use Rattle.live_moves.specs.Played.{after, played}
+use Rattle.live_moves.specs.Played.{movedBy, played}
 use Rattle.live_moves.specs.PlayedLaws.{played-none, played-next}
 use Rattle.live_moves.proofs.by_value.play.Statement.{statement}
 use Rattle.live_moves.proofs.by_value.play.Tie as tie
@@ -35,7 +35,7 @@ loop-again c =
     let loop = c .before .before .before .loop in (
       omega arith,
       (
-        c .turn .ensures .0 ∙ ap₂ after (loop .inv .1 .0) (c .before .nth .ensures) ∙ played-next _ _ (loop .k),
+        c .turn .ensures .0 ∙ ap₂ movedBy (loop .inv .1 .0) (c .before .nth .ensures) ∙ played-next _ _ (loop .k),
         c .turn .ensures .1,
       ),
     )

@@ -54,13 +54,13 @@ use Rattle.dispatcher.specs.declared.Dispatcher.{Dispatcher}
 use Rattle.dispatcher.specs.Within.{Within}
 use Rattle.dispatcher.proofs.Dispatcher as D
 use Rattle.dispatcher.proofs.Dispatcher.Laws as D′
-use Rattle.outcome.specs.WalkSteps.{says-both}
+use Rattle.walks.specs.Steps.{says-both}
+use Rattle.walks.specs.Locals.{Blocks, placed, local-at, room, cell, frees-each, alloc-all, free-all, held}
 use Rattle.live_moves.specs.declared.script.Move.{Move}
-use Rattle.live_moves.specs.Played.{after, played}
+use Rattle.live_moves.specs.Played.{movedBy, played}
 use Rattle.live_moves.specs.PlayedLaws.{played-none, played-next, played-within}
 use Rattle.live_moves.specs.Script.{moveAt}
 use Rattle.live_moves.proofs.Lending.{val, vals, laid, taken-up}
-use Rattle.live_moves.proofs.Steps.{Blocks, placed, local-at, room, cell, frees-each, alloc-all, free-all, held}
 use Rattle.live_moves.proofs.script.Move as Mv
 use Rattle.live_moves.proofs.script.Move.Laws as Mv′
 use Rattle.live_moves.proofs.script.nth as nth
@@ -142,7 +142,7 @@ module _ {M : Type 1} (𝓤 : URA M) (H : Heap 𝓤) (A : Atoms 𝓤) (W : Given
       owned ! D.the-row (Is D.the-row) (SL.makes D.the-type D′.the-plain 𝓤 H A) start _ is-s $ fjoin ! $
       owned ! D.the-row (Is D.the-row) (SL.makes D.the-type D′.the-plain 𝓤 H A) (at-move n) _ is-r $ move ! (1 ∷ 0 ∷ []) $ done !
 
-  -- what each callee's triple binds outside, and that there is what it asks
+  -- the lifetimes and arguments of each call, and that there is what it asks
   abbrev to-nth : ℕ → Nth 𝓤 H A at-mem run .Ghost
   to-nth k = (((κ, tt), (q, tt), tt, (x, (k, tt)), (slice-vals x, (vint w64 k ∷ [], tt))), tt)
 
@@ -240,12 +240,12 @@ module _ {M : Type 1} (𝓤 : URA M) (H : Heap 𝓤) (A : Atoms 𝓤) (W : Given
         use1 W (later (some (λ (z : Unit {0}). ((‵ (flft (α ∷ []) fullShare) ⊛ ‵ ftrue) ⊛ ‵ (unit .own z (w ∷ [])))
         ⊛ some (λ (ws : Lasts turn.ended (α ∷ [], tt) (lent-at l δ (u .0), (m, tt))). ‵
         (lasts turn.ended (α ∷ [], tt) (lent-at l δ (u .0), (m, tt)) ws) ⊛
-        (raw (fact 𝓤 (ws .0 ≡ after (at-move (u .0)) m)) ⊛ raw (fact 𝓤 (Within (ws .0)))))))) (id⊢ 𝓤 _) $ await ! tt $
+        (raw (fact 𝓤 (ws .0 ≡ movedBy (at-move (u .0)) m)) ⊛ raw (fact 𝓤 (Within (ws .0)))))))) (id⊢ 𝓤 _) $ await ! tt $
         pick ! (λ z.
         split ! $ move ! (1 ∷ []) $ pick ! (λ ws. split ! $ move ! (1 ∷ []) $ split ! $
         heard ! _ (λ left. heard ! _ (λ _. fsplit ! $
         rewrite ! 0 (λ (d : Dispatcher). ‵ (fres δ (D.the-row .coded .code d)))
-        (left ∙ ap (after (at-move (u .0))) is-move ∙ played-next start xs (u .0)) refl $
+        (left ∙ ap (movedBy (at-move (u .0))) is-move ∙ played-next start xs (u .0)) refl $
         move ! (2 ∷ []) $ split ! $ split ! $ move ! (2 ∷ []) $ feqL ! (λ is-w.
         -- [the new lifetime's token; true; what the dispatcher is at last; true; the lender's part; the token; what the list
         -- owns; k; the test; _7; …]

@@ -57,19 +57,19 @@ use Rattle.dispatcher.proofs.Dispatcher as D
 use Rattle.dispatcher.proofs.Dispatcher.Laws as D′
 use Rattle.dispatcher.proofs.TickAnswer as T
 use Rattle.dispatcher.proofs.TickAnswer.Laws as T′
+use Rattle.live_loop.specs.Lent.{leaving}
+use Rattle.live_loop.proofs.arrival as lent-arrival
+use Rattle.live_loop.proofs.tick as lent-tick
 use Rattle.refusal.specs.declared.Verdict.{Verdict}
 use Rattle.refusal.specs.Refusals.{onPaper}
 use Rattle.refusal.proofs.Verdict as Vd
 use Rattle.refusal.proofs.Verdict.Laws as Vd′
-use Rattle.live_loop.specs.Lent.{leaving}
-use Rattle.live_loop.proofs.arrival as lent-arrival
-use Rattle.live_loop.proofs.tick as lent-tick
-use Rattle.outcome.specs.WalkSteps.{says-both}
+use Rattle.walks.specs.Steps.{says-both}
+use Rattle.walks.specs.Locals.{Blocks, placed, room, cell, frees-each, alloc-all, free-all, held}
 use Rattle.live_moves.specs.declared.script.Move.{Move}
 use Rattle.live_moves.specs.declared.script.Move.the-variants.{Tick, Arrival}
-use Rattle.live_moves.specs.Played.{after}
+use Rattle.live_moves.specs.Played.{movedBy}
 use Rattle.live_moves.proofs.Lending.{val as d-val, vals as d-vals}
-use Rattle.live_moves.proofs.Steps.{Blocks, placed, room, cell, frees-each, alloc-all, free-all, held}
 use Rattle.live_moves.proofs.script.Move as Mv
 use Rattle.live_moves.proofs.script.Move.Laws as Mv′
 use Rattle.live_moves.proofs.say.arrival as say-arrival
@@ -138,7 +138,7 @@ module _ {M : Type 1} (𝓤 : URA M) (H : Heap 𝓤) (A : Atoms 𝓤) (W : Given
   abbrev Post : Move → Val → SProp 𝓤
   Post m = walkOf 𝓤 H A turn.ended stayed (turn.clauses 𝓤 H A at-mem run) .post (((κ, tt), (q, tt), tt, a m, at m), tt)
 
-  exits : (m : Move) → Is Mv.the-row m (vals m) → (d : Dispatcher) → d ≡ after h m → Within d
+  exits : (m : Move) → Is Mv.the-row m (vals m) → (d : Dispatcher) → d ≡ movedBy h m → Within d
       → ent 𝓤 (sep 𝓤 (sep 𝓤 (A .lft κ q) (sem 𝓤 H A ftrue)) (sem 𝓤 H A (at-last d))) (Post m vunit)
   exits m is d e within =
       qed W (token ∷ ‵ (at-last d) ∷ []) ∵
@@ -166,7 +166,7 @@ module _ {M : Type 1} (𝓤 : URA M) (H : Heap 𝓤) (A : Atoms 𝓤) (W : Given
         move ! (1 ∷ []) $
         peeks ! R (Is R) (shows 𝓤 H A R) r (v ∷ []) (k r (left ws) e within)))))
 
-  -- And of one that answers nothing.
+  -- What a function tells that answers nothing and is lent nothing.
   module _ (ensures : Unit {0} → SProp 𝓤) (v : Val) where
     abbrev Silent : Item 𝓤
     Silent = later (some (λ (z : Unit {0}). (‵ ftrue ⊛ ‵ (unit .own z (v ∷ []))) ⊛ raw (ensures z)))
@@ -177,7 +177,7 @@ module _ {M : Type 1} (𝓤 : URA M) (H : Heap 𝓤) (A : Atoms 𝓤) (W : Given
         use1 W Silent tells $ await ! z $ pick ! (λ _. split ! $ split ! $ drop ! $ feqL ! (λ is.
         drop ! $ k (subst (λ (y : Val). Holds (hasTy tyUnit y) × WT y) (sym (ap only is)) (tt, tt))))
 
-  -- what each callee's triple binds outside, and that there is what it asks
+  -- the lifetimes and arguments of each call, and that there is what it asks
   abbrev to-tick : Ticks 𝓤 H A at-mem run .Ghost
   to-tick = (((κ, tt), (q, tt), tt, (x, tt), (vptr b o ∷ [], tt)), tt)
 
@@ -242,7 +242,7 @@ module _ {M : Type 1} (𝓤 : URA M) (H : Heap 𝓤) (A : Atoms 𝓤) (W : Given
           ∷ room E 12 ∷ room E 13 ∷ frees-each E
 
       -- what follows the match
-      leaves : (m : Move) → Is Mv.the-row m (vals m) → (d : Dispatcher) → d ≡ after h m → Within d
+      leaves : (m : Move) → Is Mv.the-row m (vals m) → (d : Dispatcher) → d ≡ movedBy h m → Within d
           → Sq W (token ∷ ‵ (at-last d) ∷ Locals m) (runs C Λ E mir.t-3 (atRet E (Post m)))
       leaves m is d e within =
           assigns ! (of-opd ! (unit-lit !)) (from ! (stop !)) (init ! 2 refl (tt, tt)) $ returns ! (look ! 2 refl) $
