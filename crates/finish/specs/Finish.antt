@@ -43,6 +43,10 @@ abbrev pub shown : Finish → ℕ
 shown isOpen = openJob
 shown (at t) = t
 
+-- and the finish that such a number tells
+abbrev pub finishOf : ℕ → Finish
+finishOf n = cond (eqb n openJob) isOpen (at n)
+
 -- the lent finish list after a run with m arrivals: "Places from m on are untouched."
 unfoldable pub finishList : ℕ → (ℕ → Finish) → List ℕ → List ℕ
 finishList m f list = places (length list) (λ k. cond (ltb k m) (shown (f k)) (getD list k 0))
