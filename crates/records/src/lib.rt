@@ -1,0 +1,1 @@
+// The 64 records of a run, told from its work file and its finish list once the run is over.
