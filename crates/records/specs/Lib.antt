@@ -1,2 +1,4 @@
+pub mod FilledLaws
+pub mod GrowthLaws
 pub mod Records
 pub mod RecordsLaws

@@ -9,8 +9,8 @@ use native.Mathlib.Decide.{ℕ-discrete}
 use native.Mathlib.Nat.{mul-le-mul-right, not-suc-le-zero}
 use native.Mathlib.Omega.{arith}
 use Rattle.clock.specs.declared.Length.{Length}
-use Rattle.clock.specs.Clock.{ticks}
-use Rattle.counting.specs.Totals.{total, longest, longest-append, total-le, Grown, grown-last, grown-append}
+use Rattle.clock.specs.Clock.{moment, ticks, until}
+use Rattle.counting.specs.Totals.{total, longest, total-append, longest-append, total-le, Grown, grown-last, grown-append}
 use Rattle.finish.specs.Finish.{Finish, isOpen, at}
 use Rattle.workfile.specs.Work.{Work}
 use Rattle.summary.specs.declared.Response.{Response}
@@ -42,6 +42,13 @@ unfolding withJob
 with-job-more total longest r = refl
 
 -- with one number more a list's response has one job more
+pub response-more : (l : List ℕ) (r : ℕ) → responseIn (l ++ r ∷ []) ≡ withJob (responseIn l) r
+unfolding responseIn withJob total longest
+response-more [] r = ap₂ (λ (t u : ℕ). Over (ticks t) (ticks u)) (omega arith) (omega arith)
+response-more (a ∷ l) r =
+    ap₂ (λ (t u : ℕ). Over (ticks t) (ticks u)) (omega (arith, total-append l (r ∷ [])))
+    (omega (arith, longest-append l (r ∷ [])))
+
 response-grown : (l m : List ℕ) (r : ℕ) → Grown l m r → responseIn m ≡ withJob (responseIn l) r
 unfolding responseIn withJob total longest
 response-grown [] [] r g = let no : ⊥ = omega (arith, g .length-is) in absurd no
@@ -59,6 +66,22 @@ adds-own w i k x own = rw (eq-eqb (w .arrival k .server) i own)
 
 adds-other : (w : Work) (i k : ℕ) (x : Finish) → (w .arrival k .server ≡ i → ⊥) → adds w i k x ≡ []
 adds-other w i k x other = rw (ne-eqb (w .arrival k .server) i other)
+
+-- By one arrival more the responses of a server grow by what it adds.
+module _ (w : Work) (f : ℕ → Finish) (i k : ℕ) where
+  pub responses-other : (w .arrival k .server ≡ i → ⊥) → responsesOf w f i (suc k) ≡ responsesOf w f i k
+  unfolding responsesOf
+  responses-other other = rw (adds-other w i k (f k) other) (append-nil _)
+
+  module _ (own : w .arrival k .server ≡ i) where
+    pub responses-open : f k ≡ isOpen → responsesOf w f i (suc k) ≡ responsesOf w f i k
+    unfolding responsesOf
+    responses-open e = rw (adds-own w i k (f k) own, e) (append-nil _)
+
+    pub responses-at : (t : ℕ) → f k ≡ at t
+        → responsesOf w f i (suc k) ≡ responsesOf w f i k ++ until (w .arrival k .moment) (moment t) .ticks ∷ []
+    unfolding responsesOf
+    responses-at t e = rw (adds-own w i k (f k) own, e)
 
 -- Jobs that add the same have the same responses.
 responses-by : (w : Work) (f g : ℕ → Finish) (i n : ℕ) → ((k : ℕ) → k < n → adds w i k (f k) ≡ adds w i k (g k))
@@ -170,7 +193,7 @@ adds-few w i k x = go (ℕ-discrete (w .arrival k .server) i) x
     go (yes own) (at t) = rw (eq-eqb (w .arrival k .server) i own) (omega arith)
     go (no other) x = rw (ne-eqb (w .arrival k .server) i other) (omega arith)
 
-few-upto : (w : Work) (f : ℕ → Finish) (i n : ℕ) → length (responsesOf w f i n) ≤ n
+pub few-upto : (w : Work) (f : ℕ → Finish) (i n : ℕ) → length (responsesOf w f i n) ≤ n
 unfolding responsesOf
 few-upto w f i zero = omega arith
 few-upto w f i (suc n) =
@@ -202,13 +225,17 @@ unfolding totalOf responseIn total
 total-in [] = refl
 total-in (r ∷ more) = refl
 
+pub total-upto : (w : Work) (f : ℕ → Finish) (i N n : ℕ) → ((k : ℕ) → k < n → longest (responseOf w k (f k)) ≤ N)
+    → totalOf (responseIn (responsesOf w f i n)) ≤ n * N
+total-upto w f i N n each =
+    omega (
+      arith,
+      total-in (responsesOf w f i n),
+      total-le N (responsesOf w f i n) (longest-upto w f i N n each),
+      mul-le-mul-right N (few-upto w f i n),
+    )
+
 pub responses-total : (w : Work) (f : ℕ → Finish) (i N : ℕ) → ((k : ℕ) → k < w .arrivals → longest (responseOf w k (f k)) ≤ N)
     → totalOf (responses w f i) ≤ w .arrivals * N
 unfolding responses
-responses-total w f i N each =
-    omega (
-      arith,
-      total-in (responsesOf w f i (w .arrivals)),
-      total-le N (responsesOf w f i (w .arrivals)) (longest-upto w f i N (w .arrivals) each),
-      mul-le-mul-right N (few-upto w f i (w .arrivals)),
-    )
+responses-total w f i N each = total-upto w f i N (w .arrivals) each

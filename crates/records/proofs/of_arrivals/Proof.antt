@@ -1,0 +1,99 @@
+-- `records::of_arrivals` meets its promise: after k turns the records are what the first k arrivals tell.
+use Prim.Native.Nat.{ℕ, _+_, _*_, _-_, _≤_}
+use borrow.Author.Needs.{needs}
+use denote.Ref.{now}
+use lib.ListN.{getD}
+use mathlib.Core.List.{List}
+use mathlib.Core.Logic.{⊎-elim}
+use mathlib.Core.Path.{_≡_, _∙_, ap}
+use native.Mathlib.Numerals.{add-one}
+use native.Mathlib.Omega.{arith}
+use Rattle.arrival.specs.declared.Arrival.{Arrival}
+use Rattle.sizes.specs.Sizes.{arrivalBytes}
+use Rattle.workfile.specs.Layout.{arrivalAt, header}
+use Rattle.workfile.specs.Work.{work}
+use Rattle.records.specs.GrowthLaws.{recordsUpTo, records-none, records-stay, records-more, records-roomy}
+use Rattle.records.proofs.of_arrivals.Statement.{statement}
+use Rattle.records.proofs.of_arrivals.Tie as tie
+
+-- what is read at a turn is arrival k
+read : (file : List ℕ) (from k : ℕ) {a : Arrival} → from ≡ header file .arrivals .offset
+    → a ≡ arrivalAt file (from + arrivalBytes * k)
+    → a ≡ work file .arrival k
+unfolding work
+read file from k starts e = e ∙ ap (λ (n : ℕ). arrivalAt file (n + arrivalBytes * k)) starts
+
+abbrev Inv-loop : tie.InvT-loop
+Inv-loop file from m finishes records₀ k₀ records k = (k ≤ m) × (records ≡ recordsUpTo (work file) finishes k)
+
+abbrev μ-loop : tie.MeasureT-loop
+μ-loop file from m finishes records₀ k₀ records k = m - k
+
+blank-records-requires : tie.Need-blank-records-requires Inv-loop μ-loop
+blank-records-requires c κs = search needs
+
+loop-holds : tie.Need-loop-holds Inv-loop μ-loop
+loop-holds c = (omega arith, c .blank-records .ensures ∙ records-none _ _)
+
+mul-arrival-from : tie.Need-mul-arrival-from Inv-loop μ-loop
+mul-arrival-from c = omega arith
+
+arrival-from-requires : tie.Need-arrival-from-requires Inv-loop μ-loop
+arrival-from-requires c κs = search needs
+
+finish-in-requires : tie.Need-finish-in-requires Inv-loop μ-loop
+finish-in-requires c κs = search needs
+
+with-arrival-requires : tie.Need-with-arrival-requires Inv-loop μ-loop
+with-arrival-requires c κs =
+    let turn = c .before .before .before .before .before in
+    let start = turn .before .before .before .before in (
+      c .before .if1 .taken,
+      rw (turn .loop .inv .1, c .finish-in .ensures)
+          (records-roomy _ _ (λ j. omega (arith, turn .before .before .shared-slice-known2 .given j)) (turn .loop .k) _
+          (omega (arith, start .pre .1, turn .loop .inv .0))
+          (c .before .if1 .taken)),
+    )
+
+add-k : tie.Need-add-k Inv-loop μ-loop
+add-k c = omega arith
+
+loop-less : tie.Need-loop-less Inv-loop μ-loop
+loop-less c = omega arith
+
+loop-again : tie.Need-loop-again Inv-loop μ-loop
+loop-again c =
+    let turn = c .before .before .before .before in
+    let start = turn .before .before .before .before in
+    let a-is = read (now (start .args .file)) (start .args .from) (turn .loop .k) (start .pre .0) (c .before .before .arrival-from .ensures) in (
+      omega arith,
+      rw add-one
+          (⊎-elim
+          (λ w. w .3 ∙ w .2 .ensures ∙ rw (w .1 .ensures) (records-more _ _ (turn .loop .k) (turn .loop .inv .1) a-is (w .0 .taken)))
+          (λ w. w .1 ∙ records-stay _ _ (turn .loop .k) (turn .loop .inv .1) a-is (w .0 .left))
+          (c .if1 .came)),
+    )
+
+returns : tie.Need-returns Inv-loop μ-loop
+returns c =
+    let start = c .before .before .before .before .before in
+    c .before .loop .inv .1
+    ∙ ap (recordsUpTo (work (now (start .args .file))) (now (start .args .finishes)))
+    (omega (arith, c .loop-test .left, c .before .loop .inv .0))
+
+pub of-arrivals-spec : {M : Type 1} → statement M
+of-arrivals-spec =
+    tie.close
+    (tie.spec
+    Inv-loop
+    μ-loop
+    blank-records-requires
+    loop-holds
+    mul-arrival-from
+    arrival-from-requires
+    finish-in-requires
+    with-arrival-requires
+    add-k
+    loop-less
+    loop-again
+    returns)
