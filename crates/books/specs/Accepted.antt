@@ -5,9 +5,7 @@ use lib.Dec.{ltb}
 use mathlib.Core.Bool.{cond}
 use mathlib.Core.List.{List}
 use mathlib.Core.Path.{_≡_, ap}
-use native.Mathlib.Decide.{decLt}
 use native.Mathlib.Omega.{arith}
-use Rattle.finish.specs.Finish.{workOf}
 use Rattle.judgement.specs.FitLaws.{Fit, judged-fit}
 use Rattle.judgement.specs.Judgement.{judged}
 use Rattle.refusal.specs.Refusals.{accepted}
@@ -15,7 +13,6 @@ use Rattle.sizes.specs.Sizes.{arrivalBytes, serverBytes}
 use Rattle.workfile.specs.declared.Header.{Header}
 use Rattle.workfile.specs.Layout.{arrivalAt, bookingAt, header}
 use Rattle.workfile.specs.Work.{Work, work}
-use Rattle.books.specs.Jobs.{work-to}
 
 pub record Accepted (file : List ℕ) : Type 0 where
   pub fit : Fit (work file) (work file .arrivals)
@@ -79,16 +76,3 @@ next-arrival w j l = rw (lt-ltb j (w .arrivals) l)
 pub next-horizon : (w : Work) (j : ℕ) → w .arrivals ≤ j → nextMoment w j ≡ w .horizon .tick
 unfolding nextMoment
 next-horizon w j l = rw (le-ltb j (w .arrivals) l)
-
--- r is the next job of server i from `from` on
-pub record NextJob (w : Work) (i from r : ℕ) : Type 0 where
-  pub own : w .arrival r .server ≡ i
-  pub none : workOf w i r ≡ workOf w i from
-
--- where work of the server is still to come, the next job is one of the arrivals
-pub next-job-here : {w : Work} {i from k : ℕ} → workOf w i from < workOf w i (w .arrivals) → NextJob w i from k → k < w .arrivals
-next-job-here {w} {i} {from} {k} more next = go (decLt k (w .arrivals))
-  where
-    go : Dec (k < w .arrivals) → k < w .arrivals
-    go (yes l) = l
-    go (no l) = let no : ⊥ = omega (arith, more, next .none, work-to w i (w .arrivals) k (omega arith)) in absurd no

@@ -19,13 +19,11 @@ use Rattle.moments.specs.OneGo.{ranFor, servedFor}
 use Rattle.moments.specs.PostponedLaws.{postponed-not, postponed-other, postponed-own, postponed-idle, postponed-start}
 use Rattle.server.specs.declared.Server.{Server}
 use Rattle.sizes.specs.Sizes.{clockEnd, mostServers}
-use Rattle.summary.specs.declared.Summary.{Summary}
-use Rattle.summary.specs.Summary.{blank}
 use Rattle.workfile.specs.Work.{Work}
 use Rattle.books.specs.declared.Current.{Current}
-use Rattle.books.specs.Ends.{finishes-same, finishes-one, recordsAt, records-start, records-same, records-one, start-open, withOne}
+use Rattle.books.specs.Ends.{finishes-same, finishes-one, start-open}
 use Rattle.books.specs.Events.{event-at, event-turns, event-history, event-served, event-unserved, event-other, event-own, event-stands, idle-turns, idle-history, idle-unserved}
-use Rattle.books.specs.Jobs.{Job, job-later, job-waits, job-goes-on, job-ends, job-waiting, work-none, idle-ends-none, run-ends-no-other, job-was-open, job-still-open, job-finishes}
+use Rattle.books.specs.Jobs.{Job, job-later, job-waits, job-goes-on, job-ends, job-waiting, NextJob, work-none, idle-ends-none, run-ends-no-other, job-was-open, job-still-open, job-finishes}
 use Rattle.books.specs.Segmented.{Segmented, segmented-then, withWaits}
 use Rattle.books.specs.Stands.{Stands, stands-within}
 use Rattle.books.specs.Stretches.{chosen-server, chosen-nobody}
@@ -42,23 +40,23 @@ pub record Counts (w : Work) (t : ℕ) (postponed : List ℕ) : Type 0 where
   pub places : length postponed ≡ mostServers
   pub each : (i : ℕ) → i < mostServers → getD postponed i 0 ≡ postponedBy w i t
 
--- the finish list and the records
-pub record Ended (w : Work) (t : ℕ) (ends finishes : List ℕ) (records : List Summary) : Type 0 where
+-- the finish list
+pub record Ended (w : Work) (t : ℕ) (ends finishes : List ℕ) : Type 0 where
   pub finishes-is : finishes ≡ finishList (w .arrivals) (finish w (history w) t) ends
-  pub records-is : records ≡ recordsAt w t
 
--- At the start.
-pub jobs-start : (w : Work) → Jobs w 0 0 (replicate mostServers 0) (replicate mostServers 0)
-jobs-start w =
+-- At the start, with the first job of each server.
+pub jobs-start : {w : Work} {first : List ℕ} → length first ≡ mostServers
+    → ((i : ℕ) → i < mostServers → NextJob w i 0 (getD first i 0)) → Jobs w 0 0 first (replicate mostServers 0)
+jobs-start {w} {first} long next =
     record {
-      job-places = length-replicate {A = ℕ} mostServers 0;
+      job-places = long;
       left-places = length-replicate {A = ℕ} mostServers 0;
       each = λ i b.
-          subst⁻¹ (λ (n : ℕ). Job w 0 0 i n n) (getD-replicate mostServers i 0 0 b)
+          subst⁻¹ (Job w 0 0 i (getD first i 0)) (getD-replicate mostServers i 0 0 b)
           record {
-            between = λ e. served-start (history w) i ∙ sym (work-none w i);
+            own = next i b .own;
+            between = λ e. served-start (history w) i ∙ sym (work-none w i) ∙ sym (next i b .none);
             taken = λ l. let no : ⊥ = omega arith in absurd no;
-            own = λ l. let no : ⊥ = omega arith in absurd no;
             begun = λ l. let no : ⊥ = omega arith in absurd no;
             rest = λ l. let no : ⊥ = omega arith in absurd no;
           };
@@ -72,11 +70,10 @@ counts-start w =
     }
 
 pub ended-start : {w : Work} (ends : List ℕ) → Fit w (length ends)
-    → Ended w 0 ends (finishList (w .arrivals) (λ k. isOpen) ends) (replicate mostServers blank)
+    → Ended w 0 ends (finishList (w .arrivals) (λ k. isOpen) ends)
 ended-start {w} ends fit =
     record {
       finishes-is = finishes-same (w .arrivals) ends (λ k. isOpen) (finish w (history w) 0) (λ k b. sym (start-open fit k b));
-      records-is = records-start fit;
     }
 
 -- arrivals change none of them
@@ -108,15 +105,14 @@ module _ {w : Work} {places t j : ℕ} {d : Dispatcher} (fit : Fit w places) (s 
           each = λ i l. c .each i l ∙ sym (postponed-idle w t (suc k) (idle-turns fit s k end later none) i);
         }
 
-    pub idle-ended : {ends finishes : List ℕ} {records : List Summary} → Ended w t ends finishes records
-        → Ended w (t + suc k) ends finishes records
+    pub idle-ended : {ends finishes : List ℕ} → Ended w t ends finishes
+        → Ended w (t + suc k) ends finishes
     idle-ended {ends} e =
         let same = idle-ends-none w t (suc k) (idle-history fit s k end later none) in
         record {
           finishes-is =
               e .finishes-is
               ∙ finishes-same (w .arrivals) ends (finish w (history w) t) (finish w (history w) (t + suc k)) (λ a b. sym (same a));
-          records-is = e .records-is ∙ records-same w t (t + suc k) (λ a b. sym (same a));
         }
 
     pub idle-segmented : {lent list interrupted : List ℕ} {c : Current} → Segmented w lent list interrupted c t
@@ -179,10 +175,10 @@ module _ {w : Work} {places t j : ℕ} {d : Dispatcher} (fit : Fit w places) (s 
             subst⁻¹ (Job w (t + suc k) j n (getD job n 0)) (getD-set-other left i n (getD left i 0 - suc k) 0 other)
             (others-wait n l other)
 
-    -- or has ended
-    pub ran-jobs-ended : suc k ≡ getD left i 0 → Jobs w (t + suc k) j (set job i (getD job i 0 + 1))
-        (set left i (getD left i 0 - suc k))
-    ran-jobs-ended e =
+    -- or has ended, and the next one stands behind it
+    pub ran-jobs-ended : suc k ≡ getD left i 0 → {next : ℕ} → NextJob w i (suc (getD job i 0)) next
+        → Jobs w (t + suc k) j (set job i next) (set left i (getD left i 0 - suc k))
+    ran-jobs-ended e {next} behind =
         record {
           job-places = simp length-set (b .job-places);
           left-places = simp length-set (b .left-places);
@@ -190,18 +186,16 @@ module _ {w : Work} {places t j : ℕ} {d : Dispatcher} (fit : Fit w places) (s 
         }
       where
         each : (n : ℕ) → n < mostServers → Dec (n ≡ i)
-            → Job w (t + suc k) j n (getD (set job i (getD job i 0 + 1)) n 0) (getD (set left i (getD left i 0 - suc k)) n 0)
+            → Job w (t + suc k) j n (getD (set job i next) n 0) (getD (set left i (getD left i 0 - suc k)) n 0)
         each n l (yes q) =
             subst⁻¹
-            (λ (n : ℕ). Job w (t + suc k) j n (getD (set job i (getD job i 0 + 1)) n 0)
-            (getD (set left i (getD left i 0 - suc k)) n 0))
+            (λ (n : ℕ). Job w (t + suc k) j n (getD (set job i next) n 0) (getD (set left i (getD left i 0 - suc k)) n 0))
             q
-            (subst₂ (Job w (t + suc k) j i)
-            (sym (getD-set-same job i (getD job i 0 + 1) 0 (omega (arith, b .job-places)) ∙ omega arith))
+            (subst₂ (Job w (t + suc k) j i) (sym (getD-set-same job i next 0 (omega (arith, b .job-places))))
             (sym (getD-set-same left i (getD left i 0 - suc k) 0 (omega (arith, b .left-places)) ∙ omega arith))
-            (job-ends (suc k) its some within its-ticks e))
+            (job-ends (suc k) its some within its-ticks e behind))
         each n l (no other) =
-            subst₂ (Job w (t + suc k) j n) (sym (getD-set-other job i n (getD job i 0 + 1) 0 other))
+            subst₂ (Job w (t + suc k) j n) (sym (getD-set-other job i n next 0 other))
             (sym (getD-set-other left i n (getD left i 0 - suc k) 0 other))
             (others-wait n l other)
 
@@ -247,7 +241,7 @@ module _ {w : Work} {places t j : ℕ} {d : Dispatcher} (fit : Fit w places) (s 
             e))
         each n l (no other) = getD-set-other postponed i n (getD postponed i 0 + 1) 0 other ∙ counts-else c n l other
 
-    -- the finishes and the records
+    -- the finishes
     no-other-ends : (a : ℕ) → a < w .arrivals → (a ≡ getD job i 0 → ⊥)
         → finish w (history w) t a ≡ finish w (history w) (t + suc k) a
     no-other-ends a l n =
@@ -259,15 +253,14 @@ module _ {w : Work} {places t j : ℕ} {d : Dispatcher} (fit : Fit w places) (s 
     pub its-place : getD job i 0 < w .arrivals
     its-place = omega (arith, its .taken some, s .count)
 
-    pub ran-ended : {ends finishes : List ℕ} {records : List Summary} → Ended w t ends finishes records → suc k < getD left i 0
-        → Ended w (t + suc k) ends finishes records
+    pub ran-ended : {ends finishes : List ℕ} → Ended w t ends finishes → suc k < getD left i 0
+        → Ended w (t + suc k) ends finishes
     ran-ended {ends} e more =
         record {
           finishes-is =
               e .finishes-is
               ∙ finishes-same (w .arrivals) ends (finish w (history w) t) (finish w (history w) (t + suc k))
               (λ a l. same a l (ℕ-discrete a (getD job i 0)));
-          records-is = e .records-is ∙ records-same w t (t + suc k) (λ a l. same a l (ℕ-discrete a (getD job i 0)));
         }
       where
         same : (a : ℕ) → a < w .arrivals → Dec (a ≡ getD job i 0) → finish w (history w) t a ≡ finish w (history w) (t + suc k) a
@@ -277,30 +270,15 @@ module _ {w : Work} {places t j : ℕ} {d : Dispatcher} (fit : Fit w places) (s 
             ∙ sym (job-still-open fit k (serverAt d i .deadline) its some within (s .count) history-is more))
         same a l (no n) = no-other-ends a l n
 
-    pub ran-ended-one : {ends finishes : List ℕ} {records : List Summary} → w .arrivals ≤ length ends → Ended w t ends finishes
-        records
-        → suc k ≡ getD left i 0
+    pub ran-ended-one : {ends finishes : List ℕ} → w .arrivals ≤ length ends → Ended w t ends finishes → suc k ≡ getD left i 0
         → Ended w (t + suc k) ends (set finishes (getD job i 0) (t + suc k))
-        (set records i (withOne (getD records i blank) (t + suc k - w .arrival (getD job i 0) .moment .tick)))
-    ran-ended-one {ends} {finishes} {records} places e all =
+    ran-ended-one {ends} places e all =
         record {
           finishes-is =
               ap₂ (λ (l : List ℕ) (x : Finish). set l (getD job i 0) (shown x)) (e .finishes-is) (sym now-ended)
-              ∙ finishes-one (w .arrivals) ends (finish w (history w) t) (finish w (history w) (t + suc k)) (getD job i 0)
-              its-place places
+              ∙ finishes-one (w .arrivals) ends (finish w (history w) t) (finish w (history w) (t + suc k)) (getD job i 0) its-place
+              places
               no-other-ends;
-          records-is =
-              ap (λ (l : List Summary). set l i (withOne (getD l i blank) (t + suc k - w .arrival (getD job i 0) .moment .tick)))
-              (e .records-is)
-              ∙ subst
-              (λ (n : ℕ).
-              set (recordsAt w t) n (withOne (getD (recordsAt w t) n blank) (t + suc k - w .arrival (getD job i 0) .moment .tick))
-              ≡ recordsAt w (t + suc k))
-              (its .own some)
-              (records-one w t (t + suc k) (getD job i 0) its-place (subst⁻¹ (λ (n : ℕ). n < mostServers) (its .own some) among)
-              was-open
-              now-ended
-              no-other-ends);
         }
       where
         now-ended : finish w (history w) (t + suc k) (getD job i 0) ≡ at (t + suc k)

@@ -20,13 +20,11 @@ use Rattle.moments.specs.OneGo.{servedFor}
 use Rattle.moments.specs.OneGoLaws.{served-budget}
 use Rattle.server.specs.declared.Server.{Server}
 use Rattle.sizes.specs.Sizes.{mostServers}
-use Rattle.summary.specs.declared.Summary.{Summary}
-use Rattle.summary.specs.Summary as summary
 use Rattle.workfile.specs.Work.{Work}
 use Rattle.books.specs.Budgets.{budgetsOn, currentOn, traceOn, interruptedOn, Further}
 use Rattle.books.specs.declared.Current.{Current}
-use Rattle.books.specs.Ends.{withOne}
 use Rattle.books.specs.Goes.{Jobs, Counts, Ended, ran-jobs, ran-jobs-ended, ran-ended, ran-ended-one}
+use Rattle.books.specs.Jobs.{NextJob}
 use Rattle.books.specs.Keys.{keyOf, Keyed}
 use Rattle.books.specs.Segmented.{Segmented, withWaits}
 use Rattle.books.specs.Stands.{Stands}
@@ -76,8 +74,8 @@ pub record Happens (t next : ℕ) (d : Dispatcher) (keys rest postponed interrup
 
 module _ {w : Work} {lent ends : List ℕ} {t j next : ℕ} {d : Dispatcher}
     {keys job left postponed interrupted list finishes : List ℕ}
-    {records : List Summary} {c : Current} (fit : Fit w (length ends))
-    (v : Travels w lent ends t j next d keys job left postponed interrupted list finishes records c) (ahead : t < next) (i : ℕ)
+    {c : Current} (fit : Fit w (length ends))
+    (v : Travels w lent ends t j next d keys job left postponed interrupted list finishes c) (ahead : t < next) (i : ℕ)
     (server : i < mostServers) (works : getD keys 1 0 ≡ lastTick → ⊥) (is : i ≡ getD keys 1 0 % 64) {work rest : List ℕ}
     (b : Jobs w t j work rest) (some : 0 < getD rest i 0) {spare n : ℕ} {keys′ rest′ postponed′ interrupted′ list′ : List ℕ}
     {c′ : Current}
@@ -102,17 +100,16 @@ module _ {w : Work} {lent ends : List ℕ} {t j next : ℕ} {d : Dispatcher}
   time-then : t + suc k + n * serverAt d i .budget .ticks ≡ t + gone (serverAt d i) (suc k) n
   time-then = add-assoc t (suc k) (n * serverAt d i .budget .ticks)
 
-  -- with these jobs, finishes and records after the first ticks
-  finally : {work′ finishes′ : List ℕ} {records′ : List Summary} → Jobs w (t + suc k) j work′ (set rest i (getD rest i 0 - suc k))
-      → Ended w (t + suc k) ends finishes′ records′
+  -- with these jobs and finishes after the first ticks
+  finally : {work′ finishes′ : List ℕ} → Jobs w (t + suc k) j work′ (set rest i (getD rest i 0 - suc k))
+      → Ended w (t + suc k) ends finishes′
       → Travels w lent ends (t + gone (serverAt d i) (suc k) n) j next (dispatcherAfter d t i (suc k) n) keys′ work′ rest′
       postponed′
       interrupted′
       list′
       finishes′
-      records′
       c′
-  finally {work′} {finishes′} {records′} jobs′ ended′ =
+  finally {work′} {finishes′} jobs′ ended′ =
       record {
         stands = subst (λ (u : ℕ). Stands w u j (dispatcherAt u)) time-then (x .stands);
         next-is = v .next-is;
@@ -120,7 +117,7 @@ module _ {w : Work} {lent ends : List ℕ} {t j next : ℕ} {d : Dispatcher}
         keyed = subst (λ (u : ℕ). Keyed keys′ (dispatcherAt u)) time-then (x .keyed);
         jobs = subst₂ (λ (u : ℕ) (l : List ℕ). Jobs w u j work′ l) time-then rest-then (x .jobs);
         counts = subst₂ (Counts w) time-then postponed-then (x .counts);
-        ended = subst (λ (u : ℕ). Ended w u ends finishes′ records′) time-then (x .ended);
+        ended = subst (λ (u : ℕ). Ended w u ends finishes′) time-then (x .ended);
         segmented =
             subst⁻¹ (λ (y : Current). Segmented w lent list′ interrupted′ y (t + gone (serverAt d i) (suc k) n)) (h .current-is)
             (subst₂ (λ (l m : List ℕ). Segmented w lent l m onward (t + gone (serverAt d i) (suc k) n)) (sym (h .list-is))
@@ -160,7 +157,6 @@ module _ {w : Work} {lent ends : List ℕ} {t j next : ℕ} {d : Dispatcher}
           cut
           listed
           finishes′
-          records′
           onward
       x =
           travels-then fit v ahead i works is b some k (h .inside) (h .budget) (h .time) jobs′ ended′ spare n
@@ -189,7 +185,6 @@ module _ {w : Work} {lent ends : List ℕ} {t j next : ℕ} {d : Dispatcher}
       interrupted′
       list′
       finishes
-      records
       c′
   ran-on leaves =
       finally (ran-jobs fit (v .stands) k to-horizon none-before i picks b some (h .inside) (h .budget) more)
@@ -205,23 +200,19 @@ module _ {w : Work} {lent ends : List ℕ} {t j next : ℕ} {d : Dispatcher}
           go (yes e) = absurd (leaves (sym e ∙ sym (budgets-leave e)))
           go (no n) = omega (arith, h .inside)
 
-  pub ran-out : w .arrivals ≤ length ends → getD rest i 0 ≡ gone (serverAt d i) (suc k) n
+  pub ran-out : w .arrivals ≤ length ends → getD rest i 0 ≡ gone (serverAt d i) (suc k) n → {behind : ℕ}
+      → NextJob w i (suc (getD work i 0)) behind
       → Travels w lent ends (t + gone (serverAt d i) (suc k) n) j next (dispatcherAfter d t i (suc k) n) keys′
-      (set work i (getD work i 0 + 1))
+      (set work i behind)
       rest′
       postponed′
       interrupted′
       list′
       (set finishes (getD work i 0) (t + gone (serverAt d i) (suc k) n))
-      (set records i
-      (withOne (getD records i summary.blank) (t + gone (serverAt d i) (suc k) n - w .arrival (getD work i 0) .moment .tick)))
       c′
-  ran-out places e =
-      finally (ran-jobs-ended fit (v .stands) k to-horizon none-before i picks b some (h .inside) (h .budget) all)
-      (subst
-      (λ (u : ℕ).
-      Ended w (t + suc k) ends (set finishes (getD work i 0) u)
-      (set records i (withOne (getD records i summary.blank) (u - w .arrival (getD work i 0) .moment .tick))))
+  ran-out places e next-one =
+      finally (ran-jobs-ended fit (v .stands) k to-horizon none-before i picks b some (h .inside) (h .budget) all next-one)
+      (subst (λ (u : ℕ). Ended w (t + suc k) ends (set finishes (getD work i 0) u))
       (ap (λ (m : ℕ). t + m) (sym (budgets-leave all)))
       (ran-ended-one fit (v .stands) k to-horizon none-before i picks b some (h .inside) (h .budget) places (v .ended) all))
     where
@@ -246,8 +237,8 @@ module _ {w : Work} {lent ends : List ℕ} {t j next : ℕ} {d : Dispatcher}
 
 module _ {w : Work} {lent ends : List ℕ} {t j next : ℕ} {d : Dispatcher}
     {keys job left postponed interrupted list finishes : List ℕ}
-    {records : List Summary} {c : Current} (fit : Fit w (length ends))
-    (v : Travels w lent ends t j next d keys job left postponed interrupted list finishes records c) (ahead : t < next) (i : ℕ)
+    {c : Current} (fit : Fit w (length ends))
+    (v : Travels w lent ends t j next d keys job left postponed interrupted list finishes c) (ahead : t < next) (i : ℕ)
     (server : i < mostServers) (works : getD keys 1 0 ≡ lastTick → ⊥) (is : i ≡ getD keys 1 0 % 64) {work rest : List ℕ}
     (b : Jobs w t j work rest) (some : 0 < getD rest i 0) {spare n : ℕ} {keys′ rest′ postponed′ interrupted′ list′ : List ℕ}
     {c′ : Current} where
@@ -257,22 +248,19 @@ module _ {w : Work} {lent ends : List ℕ} {t j next : ℕ} {d : Dispatcher}
       → (getD rest i 0 ≡ gone (serverAt d i) r n → ⊥)
       → Travels w lent ends (t + gone (serverAt d i) r n) j next (dispatcherAfter d t i r n) keys′ work rest′ postponed′
       interrupted′ list′ finishes
-      records
       c′
   travels-ran zero h leaves = let no : ⊥ = omega (arith, h .some) in absurd no
   travels-ran (suc k) h leaves = ran-on fit v ahead i server works is b some k h leaves
 
   pub travels-ended : (r : ℕ)
       → Happens t next d keys rest postponed interrupted list c i r spare n keys′ rest′ postponed′ interrupted′ list′ c′
-      → w .arrivals ≤ length ends → getD rest i 0 ≡ gone (serverAt d i) r n
+      → w .arrivals ≤ length ends → getD rest i 0 ≡ gone (serverAt d i) r n → {behind : ℕ} → NextJob w i (suc (getD work i 0)) behind
       → Travels w lent ends (t + gone (serverAt d i) r n) j next (dispatcherAfter d t i r n) keys′
-      (set work i (getD work i 0 + 1)) rest′
+      (set work i behind) rest′
       postponed′
       interrupted′
       list′
       (set finishes (getD work i 0) (t + gone (serverAt d i) r n))
-      (set records i
-      (withOne (getD records i summary.blank) (t + gone (serverAt d i) r n - w .arrival (getD work i 0) .moment .tick)))
       c′
-  travels-ended zero h places e = let no : ⊥ = omega (arith, h .some) in absurd no
-  travels-ended (suc k) h places e = ran-out fit v ahead i server works is b some k h places e
+  travels-ended zero h places e next-one = let no : ⊥ = omega (arith, h .some) in absurd no
+  travels-ended (suc k) h places e next-one = ran-out fit v ahead i server works is b some k h places e next-one

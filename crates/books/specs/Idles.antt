@@ -11,7 +11,6 @@ use Rattle.dispatcher.specs.declared.Dispatcher.{Dispatcher}
 use Rattle.judgement.specs.FitLaws.{Fit}
 use Rattle.moments.specs.OneGo.{laterBy}
 use Rattle.sizes.specs.Sizes.{mostServers}
-use Rattle.summary.specs.declared.Summary.{Summary}
 use Rattle.workfile.specs.Work.{Work}
 use Rattle.books.specs.declared.Current.{Current}
 use Rattle.books.specs.Keys.{Keyed}
@@ -39,15 +38,15 @@ waits-kept c t i d = go (stays c i d)
     go false = refl
 
 module _ {w : Work} {lent ends : List ℕ} {t j next : ℕ} {d : Dispatcher} {keys job left postponed interrupted list finishes : List ℕ}
-    {records : List Summary} {c : Current} (fit : Fit w (length ends))
-    (v : Travels w lent ends t j next d keys job left postponed interrupted list finishes records c) (ahead : t < next)
+    {c : Current} (fit : Fit w (length ends))
+    (v : Travels w lent ends t j next d keys job left postponed interrupted list finishes c) (ahead : t < next)
     (none : getD keys 1 0 ≡ lastTick) {interrupted′ list′ : List ℕ} {c′ : Current}
     (current-is : c′ ≡ currentThen c t mostServers (moment 0)) (list-is : list′ ≡ traceThen c t mostServers (moment 0) list)
     (interrupted-is : interrupted′ ≡ interruptedThen c mostServers (moment 0) interrupted) where
   clock-is : laterBy d (next - t) ≡ atClock d next
   clock-is = ap (atClock d) (omega (arith, ap (λ (m : Moment). m .tick) (stands-clock fit (v .stands) (before-end fit v))))
 
-  pub idled-on : Travels w lent ends next j next (atClock d next) keys job left postponed interrupted′ list′ finishes records c′
+  pub idled-on : Travels w lent ends next j next (atClock d next) keys job left postponed interrupted′ list′ finishes c′
   idled-on =
       let x = travels-idle fit v ahead none in
       record {

@@ -43,12 +43,17 @@ module _ (w : Work) (i : ℕ) where
   pub work-to : (k l : ℕ) → k ≤ l → workOf w i k ≤ workOf w i l
   work-to k l le = subst (λ (n : ℕ). workOf w i k ≤ workOf w i n) (add-sub-of-le le) (work-more k (l - k))
 
+-- r is the next job of server i from `from` on, or behind all arrivals where there is none
+pub record NextJob (w : Work) (i from r : ℕ) : Type 0 where
+  pub own : r < w .arrivals → w .arrival r .server ≡ i
+  pub none : workOf w i r ≡ workOf w i from
+
 -- Server i at moment t, with j arrivals taken: where nothing is left of `job`, all its jobs before that one have been served and none
 -- of that one; else `job` is the one being served, and `left` what is left of it.
 pub record Job (w : Work) (t j i job left : ℕ) : Type 0 where
+  pub own : job < w .arrivals → w .arrival job .server ≡ i
   pub between : left ≡ 0 → served (history w) i t ≡ workOf w i job
   pub taken : 0 < left → job < j
-  pub own : 0 < left → w .arrival job .server ≡ i
   pub begun : 0 < left → workOf w i job ≤ served (history w) i t
   pub rest : 0 < left → served (history w) i t + left ≡ workOf w i (suc job)
 
@@ -57,9 +62,9 @@ module _ {w : Work} {t i job left : ℕ} where
   pub job-later : {j k : ℕ} → j ≤ k → Job w t j i job left → Job w t k i job left
   job-later le b =
       record {
+        own = b .own;
         between = b .between;
         taken = λ l. omega (arith, b .taken l);
-        own = b .own;
         begun = b .begun;
         rest = b .rest;
       }
@@ -68,31 +73,31 @@ module _ {w : Work} {t i job left : ℕ} where
   pub job-waits : {j : ℕ} (u : ℕ) → served (history w) i u ≡ served (history w) i t → Job w t j i job left → Job w u j i job left
   job-waits u e b =
       record {
+        own = b .own;
         between = λ l. e ∙ b .between l;
         taken = b .taken;
-        own = b .own;
         begun = λ l. omega (arith, b .begun l);
         rest = λ l. omega (arith, b .rest l);
       }
 
--- the next job of the server from `job` on, where work of it waits
-module _ {w : Work} {t j i job k places : ℕ} (fit : Fit w places) (taken : j ≤ w .arrivals) (b : Job w t j i job 0)
-    (waits : served (history w) i t < workOf w i j) (own : w .arrival k .server ≡ i) (none : workOf w i k ≡ workOf w i job) where
-  found-taken : k < j
-  found-taken = go (decLt k j)
+-- where work of the server waits, that is work of `job`, which is opened
+module _ {w : Work} {t j i job places : ℕ} (fit : Fit w places) (taken : j ≤ w .arrivals) (b : Job w t j i job 0)
+    (waits : served (history w) i t < workOf w i j) where
+  pub waits-taken : job < j
+  waits-taken = go (decLt job j)
     where
-      go : Dec (k < j) → k < j
+      go : Dec (job < j) → job < j
       go (yes l) = l
-      go (no l) = let no : ⊥ = omega (arith, work-to w i j k (omega arith), b .between refl) in absurd no
+      go (no l) = let no : ⊥ = omega (arith, work-to w i j job (omega arith), b .between refl) in absurd no
 
-  pub job-opens : Job w t j i k (w .arrival k .cost .ticks)
+  pub job-opens : Job w t j i job (w .arrival job .cost .ticks)
   job-opens =
       record {
-        between = λ e. let no : ⊥ = omega (arith, fit .sound k (omega (arith, found-taken)) .from) in absurd no;
-        taken = λ l. found-taken;
-        own = λ l. own;
+        own = b .own;
+        between = λ e. let no : ⊥ = omega (arith, fit .sound job (omega (arith, waits-taken)) .from) in absurd no;
+        taken = λ l. waits-taken;
         begun = λ l. omega (arith, b .between refl);
-        rest = λ l. omega (arith, b .between refl, work-own w i k own);
+        rest = λ l. omega (arith, b .between refl, work-own w i job (b .own (omega (arith, waits-taken))));
       }
 
 -- k ticks of the job that is served, which may end it
@@ -101,19 +106,19 @@ module _ {w : Work} {t j i job left : ℕ} (k : ℕ) (b : Job w t j i job left) 
   pub job-goes-on : k < left → Job w (t + k) j i job (left - k)
   job-goes-on more =
       record {
+        own = b .own;
         between = λ e. let no : ⊥ = omega arith in absurd no;
         taken = λ l. b .taken some;
-        own = λ l. b .own some;
         begun = λ l. omega (arith, b .begun some);
         rest = λ l. omega (arith, b .rest some);
       }
 
-  pub job-ends : k ≡ left → Job w (t + k) j i (suc job) 0
-  job-ends e =
+  pub job-ends : k ≡ left → {next : ℕ} → NextJob w i (suc job) next → Job w (t + k) j i next 0
+  job-ends e next =
       record {
-        between = λ z. omega (arith, b .rest some);
+        own = next .own;
+        between = λ z. omega (arith, b .rest some, next .none);
         taken = λ l. let no : ⊥ = omega arith in absurd no;
-        own = λ l. let no : ⊥ = omega arith in absurd no;
         begun = λ l. let no : ⊥ = omega arith in absurd no;
         rest = λ l. let no : ⊥ = omega arith in absurd no;
       }
@@ -138,6 +143,9 @@ module _ {w : Work} {t j i job left places : ℕ} (fit : Fit w places) (k : ℕ)
     (all : (q : ℕ) → q < suc k → history w (t + q) ≡ given i d) where
   ticks : served (history w) i (t + suc k) ≡ served (history w) i t + suc k
   ticks = served-own (history w) i t (suc k) d all
+
+  own-job : w .arrival job .server ≡ i
+  own-job = b .own (omega (arith, b .taken some))
 
   -- another job of the same server
   own-other : (a : ℕ) → a < w .arrivals → w .arrival a .server ≡ i → (a ≡ job → ⊥)
@@ -177,18 +185,18 @@ module _ {w : Work} {t j i job left places : ℕ} (fit : Fit w places) (k : ℕ)
   -- the job itself was open
   pub job-was-open : finish w (history w) t job ≡ isOpen
   job-was-open =
-      subst⁻¹ (λ (s : ℕ). servedBy (history w) s (workOf w s (suc job)) t ≡ isOpen) (b .own some)
+      subst⁻¹ (λ (s : ℕ). servedBy (history w) s (workOf w s (suc job)) t ≡ isOpen) own-job
       (finish-open (history w) i (workOf w i (suc job)) t (omega (arith, b .rest some)))
 
   -- and still is, or has just finished
   pub job-still-open : suc k < left → finish w (history w) (t + suc k) job ≡ isOpen
   job-still-open more =
-      subst⁻¹ (λ (s : ℕ). servedBy (history w) s (workOf w s (suc job)) (t + suc k) ≡ isOpen) (b .own some)
+      subst⁻¹ (λ (s : ℕ). servedBy (history w) s (workOf w s (suc job)) (t + suc k) ≡ isOpen) own-job
       (finish-open (history w) i (workOf w i (suc job)) (t + suc k) (omega (arith, b .rest some, ticks)))
 
   pub job-finishes : suc k ≡ left → finish w (history w) (t + suc k) job ≡ at (t + suc k)
   job-finishes e =
-      subst⁻¹ (λ (s : ℕ). servedBy (history w) s (workOf w s (suc job)) (t + suc k) ≡ at (t + suc k)) (b .own some)
+      subst⁻¹ (λ (s : ℕ). servedBy (history w) s (workOf w s (suc job)) (t + suc k) ≡ at (t + suc k)) own-job
       (subst⁻¹ (λ (u : ℕ). servedBy (history w) i (workOf w i (suc job)) u ≡ at u) (add-suc t k)
       (finish-now (history w) i (workOf w i (suc job)) (t + k)
       (omega (arith, served-own (history w) i t k d (λ q l. all q (omega arith)), b .rest some))

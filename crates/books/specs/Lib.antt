@@ -12,6 +12,7 @@ pub mod Happens
 pub mod Idles
 pub mod Jobs
 pub mod Keys
+pub mod Lined
 pub mod Onward
 pub mod Opened
 pub mod Opens
@@ -22,8 +23,10 @@ pub mod Segmented
 pub mod Spells
 pub mod Stands
 pub mod Stretches
+pub mod Told
 pub mod Took
 pub mod Travels
 pub mod Turns
+pub mod Went
 pub mod Whole
 pub mod Winners

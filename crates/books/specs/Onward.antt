@@ -15,7 +15,6 @@ use Rattle.moments.specs.OneGo.{servedFor, ranFor}
 use Rattle.server.specs.declared.Server.{Server}
 use Rattle.server.specs.Moves.{postponed}
 use Rattle.sizes.specs.Sizes.{mostServers}
-use Rattle.summary.specs.declared.Summary.{Summary}
 use Rattle.workfile.specs.Work.{Work}
 use Rattle.books.specs.declared.Current.{Current}
 use Rattle.books.specs.Goes.{Jobs, Counts, Ended, ran-stands, ran-jobs, ran-counts-spent, ran-ended, ran-segmented}
@@ -26,29 +25,29 @@ use Rattle.books.specs.Budgets.{budgetsOn, ranBudgets, currentOn, traceO
 
 -- All the books after n budgets.
 pub record On (w : Work) (t j : ℕ) (d : Dispatcher) (i : ℕ) (job left postponed lent ends list interrupted finishes : List ℕ)
-    (records : List Summary) (c : Current) (n : ℕ) : Type 0 where
+    (c : Current) (n : ℕ) : Type 0 where
   pub stands : Stands w (t + n * serverAt d i .budget .ticks) j (ranBudgets d i n)
   pub jobs : Jobs w (t + n * serverAt d i .budget .ticks) j job (set left i (getD left i 0 - n * serverAt d i .budget .ticks))
   pub counts : Counts w (t + n * serverAt d i .budget .ticks) (set postponed i (getD postponed i 0 + n))
-  pub ended : Ended w (t + n * serverAt d i .budget .ticks) ends finishes records
+  pub ended : Ended w (t + n * serverAt d i .budget .ticks) ends finishes
   pub segmented :
       Segmented w lent (traceOn c t i (serverAt d i) n list) (interruptedOn c t i (serverAt d i) n interrupted)
       (currentOn c t i (serverAt d i) n)
       (t + n * serverAt d i .budget .ticks)
 
 module _ {w : Work} {places t j : ℕ} {d : Dispatcher} {i : ℕ} {job left postponed lent ends list interrupted finishes : List ℕ}
-    {records : List Summary} {c : Current} (fit : Fit w places) (here : i < length (d .servers)) (server : i < mostServers) (q : ℕ)
+    {c : Current} (fit : Fit w places) (here : i < length (d .servers)) (server : i < mostServers) (q : ℕ)
     (budget : serverAt d i .budget .ticks ≡ suc q)
-    (stands : Stands w t j d) (jobs : Jobs w t j job left) (counts : Counts w t postponed) (ended : Ended w t ends finishes records)
+    (stands : Stands w t j d) (jobs : Jobs w t j job left) (counts : Counts w t postponed) (ended : Ended w t ends finishes)
     (segmented : Segmented w lent list interrupted c t) where
-  on-start : On w t j d i job left postponed lent ends list interrupted finishes records c 0
+  on-start : On w t j d i job left postponed lent ends list interrupted finishes c 0
   unfolding currentOn traceOn interruptedOn
   on-start =
       record {
         stands = subst₂ (λ (u : ℕ) (x : Dispatcher). Stands w u j x) now (sym (on-none d i here)) stands;
         jobs = subst₂ (λ (u : ℕ) (l : List ℕ). Jobs w u j job l) now (sym same-left) jobs;
         counts = subst₂ (λ (u : ℕ) (l : List ℕ). Counts w u l) now (sym same-counts) counts;
-        ended = subst (λ (u : ℕ). Ended w u ends finishes records) now ended;
+        ended = subst (λ (u : ℕ). Ended w u ends finishes) now ended;
         segmented = subst (λ (u : ℕ). Segmented w lent list interrupted c u) now segmented;
       }
     where
@@ -62,7 +61,7 @@ module _ {w : Work} {places t j : ℕ} {d : Dispatcher} {i : ℕ} {job left post
       same-counts = ap (set postponed i) (add-zero (getD postponed i 0)) ∙ set-getD postponed i 0
 
   module _ (n : ℕ) (full : serverAt d i .remaining .ticks ≡ serverAt d i .budget .ticks)
-      (o : On w t j d i job left postponed lent ends list interrupted finishes records c n)
+      (o : On w t j d i job left postponed lent ends list interrupted finishes c n)
       (wins : Earliest (ranBudgets d i n) (d .count) i)
       (less : suc n * serverAt d i .budget .ticks < getD left i 0)
       (horizon : t + suc n * serverAt d i .budget .ticks ≤ w .horizon .tick)
@@ -145,7 +144,7 @@ module _ {w : Work} {places t j : ℕ} {d : Dispatcher} {i : ℕ} {job left post
         (on-own d i here n)
         (ran-segmented fit (o .stands) q horizon-next later-next i picked-one (o .jobs) some within spends (o .segmented)))
 
-    pub on-next : On w t j d i job left postponed lent ends list interrupted finishes records c (suc n)
+    pub on-next : On w t j d i job left postponed lent ends list interrupted finishes c (suc n)
     on-next =
         record {
           stands =
@@ -159,7 +158,7 @@ module _ {w : Work} {places t j : ℕ} {d : Dispatcher} {i : ℕ} {job left post
               (ran-counts-spent fit (o .stands) q horizon-next later-next i picked-one (o .jobs) some within spends (o .counts)
               (sym its-remaining));
           ended =
-              subst (λ (u : ℕ). Ended w u ends finishes records) next
+              subst (λ (u : ℕ). Ended w u ends finishes) next
               (ran-ended fit (o .stands) q horizon-next later-next i picked-one (o .jobs) some within spends (o .ended) more);
           segmented =
               subst
@@ -176,7 +175,7 @@ module _ {w : Work} {places t j : ℕ} {d : Dispatcher} {i : ℕ} {job left post
       → ((n : ℕ) → n < b → Earliest (ranBudgets d i n) (d .count) i) → (0 < b → b * serverAt d i .budget .ticks < getD left i 0)
       → t + b * serverAt d i .budget .ticks ≤ w .horizon .tick
       → ((a : ℕ) → j ≤ a → a < w .arrivals → t + b * serverAt d i .budget .ticks ≤ w .arrival a .moment .tick)
-      → On w t j d i job left postponed lent ends list interrupted finishes records c b
+      → On w t j d i job left postponed lent ends list interrupted finishes c b
   on-all zero full wins less horizon later = on-start
   on-all (suc b) full wins less horizon later =
       on-next b (full (omega arith))

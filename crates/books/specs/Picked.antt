@@ -1,13 +1,12 @@
 -- What a run may rely on between two events: of the server that is picked, and that no number is too large.
-use Prim.Native.Nat.{ℕ, _*_, _%_, _≤_, _<_}
+use Prim.Native.Nat.{ℕ, _%_, _≤_, _<_}
 use borrow.Author.Tests.{eqb-false}
 use lib.ListN.{length, getD}
 use mathlib.Core.List.{List}
 use mathlib.Core.Path.{_≡_, _∙_, ap, subst⁻¹}
-use native.Mathlib.Nat.{mul-le-mul, pos-of-ne-zero}
+use native.Mathlib.Nat.{pos-of-ne-zero}
 use native.Mathlib.Omega.{arith}
 use Rattle.clock.specs.Clock.{lastTick}
-use Rattle.counting.specs.Places.{getD-places}
 use Rattle.dispatcher.specs.declared.Dispatcher.{Dispatcher}
 use Rattle.dispatcher.specs.Pick.{serverAt}
 use Rattle.dispatcher.specs.PickLaws.{Earliest}
@@ -18,12 +17,9 @@ use Rattle.moments.specs.Moments.{history}
 use Rattle.moments.specs.PostponedLaws.{postponed-le}
 use Rattle.server.specs.RangeLaws.{busy-charged}
 use Rattle.server.specs.Ranges.{Ranged}
-use Rattle.sizes.specs.Sizes.{clockEnd, mostArrivals, mostServers}
-use Rattle.summary.specs.declared.Summary.{Summary}
-use Rattle.summary.specs.Summary as summary
-use Rattle.summary.specs.SummaryLaws.{finished-le, responses-total, totalOf}
+use Rattle.sizes.specs.Sizes.{clockEnd, mostServers}
 use Rattle.workfile.specs.Work.{Work}
-use Rattle.books.specs.Ends.{response-by, recordAt, recordsAt, finishes-length}
+use Rattle.books.specs.Ends.{finishes-length}
 use Rattle.books.specs.declared.Current.{Current}
 use Rattle.books.specs.Keys.{root-picked}
 use Rattle.books.specs.Segmented.{segmented-count, segmented-cut}
@@ -31,8 +27,8 @@ use Rattle.books.specs.Stands.{stands-within}
 use Rattle.books.specs.Travels.{Travels}
 
 module _ {w : Work} {lent ends : List ℕ} {t j next : ℕ} {d : Dispatcher} {keys job left postponed interrupted list finishes : List ℕ}
-    {records : List Summary} {c : Current} (fit : Fit w (length ends))
-    (v : Travels w lent ends t j next d keys job left postponed interrupted list finishes records c) where
+    {c : Current} (fit : Fit w (length ends))
+    (v : Travels w lent ends t j next d keys job left postponed interrupted list finishes c) where
   pub before-end : t ≤ clockEnd
   before-end = omega (arith, v .horizon, fit .horizon)
 
@@ -52,29 +48,9 @@ module _ {w : Work} {lent ends : List ℕ} {t j next : ℕ} {d : Dispatcher} {ke
   pub postponed-few : (i : ℕ) → i < mostServers → getD postponed i 0 ≤ t
   postponed-few i l = omega (arith, v .counts .each i l, postponed-le w i t)
 
-  -- the finish list and the records
+  -- the finish list
   pub finishes-long : length finishes ≡ length ends
   finishes-long = ap length (v .ended .finishes-is) ∙ finishes-length (w .arrivals) ends (finish w (history w) t)
-
-  record-now : (i : ℕ) → i < mostServers → getD records i summary.blank ≡ recordAt w t i
-  unfolding recordsAt
-  record-now i l = ap (λ (r : List Summary). getD r i summary.blank) (v .ended .records-is) ∙ getD-places mostServers (recordAt w t) i summary.blank l
-
-  pub finished-few : (i : ℕ) → i < mostServers → getD records i summary.blank .finished ≤ mostArrivals
-  unfolding recordAt
-  finished-few i l =
-      subst⁻¹ (λ (s : Summary). s .finished ≤ mostArrivals) (record-now i l)
-      (omega (arith, finished-le w (finish w (history w) t) i, fit .arrivals))
-
-  pub total-few : (i : ℕ) → i < mostServers → totalOf (getD records i summary.blank .response) ≤ mostArrivals * clockEnd
-  unfolding recordAt
-  total-few i l =
-      subst⁻¹ (λ (s : Summary). totalOf (s .response) ≤ mostArrivals * clockEnd) (record-now i l)
-      (omega (
-        arith,
-        responses-total w (finish w (history w) t) i t (λ k b. response-by w t k),
-        mul-le-mul {n₂ = mostArrivals} {m₂ = clockEnd} (fit .arrivals) before-end,
-      ))
 
   -- the server that is picked
   module _ (i : ℕ) (works : getD keys 1 0 ≡ lastTick → ⊥) (is : i ≡ getD keys 1 0 % 64) where

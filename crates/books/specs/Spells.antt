@@ -1,57 +1,47 @@
 -- A spell as it was planned keeps what holds between two events.
-use Prim.Native.Nat.{ℕ, _+_, _-_, _%_, _≤_, _<_}
+use Prim.Native.Nat.{ℕ, suc, _+_, _-_, _%_, _≤_, _<_}
 use lib.ListN.{length, getD, set}
 use mathlib.Core.List.{List}
-use mathlib.Core.Path.{_≡_, sym, _∙_, ap, ap₂, subst, subst₂}
+use mathlib.Core.Path.{_≡_, sym, _∙_, ap, ap₂, subst, subst⁻¹, subst₂}
+use native.Mathlib.Decide.{decLt}
 use native.Mathlib.Omega.{arith}
 use Rattle.clock.specs.Clock.{lastTick, moment}
-use Rattle.clock.specs.declared.Moment.{Moment}
 use Rattle.dispatcher.specs.declared.Dispatcher.{Dispatcher}
 use Rattle.dispatcher.specs.Pick.{serverAt}
 use Rattle.judgement.specs.FitLaws.{Fit}
 use Rattle.server.specs.declared.Server.{Server}
 use Rattle.sizes.specs.Sizes.{mostServers}
-use Rattle.summary.specs.declared.Summary.{Summary}
-use Rattle.summary.specs.Summary as summary
 use Rattle.workfile.specs.Work.{Work}
 use Rattle.books.specs.Budgets.{currentOn, traceOn, interruptedOn}
 use Rattle.books.specs.declared.Current.{Current}
-use Rattle.books.specs.Ends.{withOne}
-use Rattle.books.specs.Goes.{Ended, Jobs}
+use Rattle.books.specs.Goes.{Jobs}
 use Rattle.books.specs.Happens.{Happens, dispatcherAfter, travels-ran, travels-ended}
+use Rattle.books.specs.Jobs.{NextJob}
+use Rattle.books.specs.Opened.{WentOn}
 use Rattle.books.specs.Planned.{Planned}
-use Rattle.books.specs.Segmented.{withWaits}
-use Rattle.books.specs.Turns.{traceThen, interruptedThen, currentThen}
+use Rattle.books.specs.Turns.{traceThen, interruptedThen}
 use Rattle.books.specs.Travels.{Travels}
+use Rattle.books.specs.Went.{Went, after-ticks}
 use Rattle.books.specs.Winners.{Set}
 
 -- the dispatcher at another moment, with another server
 abbrev pub movedTo : Dispatcher → ℕ → ℕ → Server → Dispatcher
 movedTo d t i s = record { frame = d .frame; count = d .count; clock = moment t; servers = set (d .servers) i s }
 
--- the stretch that the run is in after the ticks of a spell
-abbrev pub after-ticks : Current → ℕ → ℕ → Moment → Server → Current
-after-ticks c t i deadline after = withWaits (currentThen c t i deadline) (after .waiting .ticks)
-
 module _ {w : Work} {lent ends : List ℕ} {t j next : ℕ} {d : Dispatcher} {keys job left postponed interrupted list finishes : List ℕ}
-    {records : List Summary} {c : Current} (fit : Fit w (length ends))
-    (v : Travels w lent ends t j next d keys job left postponed interrupted list finishes records c) (ahead : t < next) (i : ℕ)
+    {c : Current} (fit : Fit w (length ends))
+    (v : Travels w lent ends t j next d keys job left postponed interrupted list finishes c) (ahead : t < next) (i : ℕ)
     (server : i < mostServers) (works : getD keys 1 0 ≡ lastTick → ⊥) (is : i ≡ getD keys 1 0 % 64) {work rest : List ℕ}
-    (b : Jobs w t j work rest) (some : 0 < getD rest i 0) {ticks budgets key long postponements : ℕ} {after last : Server}
-    (p : Planned keys i (serverAt d i) (getD rest i 0) (next - t) ticks after budgets last key long postponements)
-    {keys′ interrupted′ list′ : List ℕ} {c′ : Current} (set-now : Set keys keys′ i key)
-    (current-is : c′ ≡ currentOn (after-ticks c t i (serverAt d i .deadline) after) (t + ticks) i after budgets)
-    (list-is :
-    list′
-    ≡ traceOn (after-ticks c t i (serverAt d i .deadline) after) (t + ticks) i after budgets
-    (traceThen c t i (serverAt d i .deadline) list))
-    (interrupted-is :
-    interrupted′
-    ≡ interruptedOn (after-ticks c t i (serverAt d i .deadline) after) (t + ticks) i after budgets
-    (interruptedThen c i (serverAt d i .deadline) interrupted)) where
-  happens : Happens t next d keys rest postponed interrupted list c i ticks (p .spare) budgets keys′
+    (b : Jobs w t j work rest) (some : 0 < getD rest i 0) {keys′ list′ postponed′ interrupted′ : List ℕ} {c′ : Current}
+    {last : Server} {long : ℕ}
+    (g :
+    Went t i (serverAt d i) (getD rest i 0) (next - t) c keys list postponed interrupted keys′ list′ postponed′ interrupted′ c′ last long) where
+  p : Planned keys i (serverAt d i) (getD rest i 0) (next - t) (g .ticks) (g .after) (g .budgets) last (g .key) long (g .postponements)
+  p = g .planned
+
+  happens : Happens t next d keys rest postponed interrupted list c i (g .ticks) (p .spare) (g .budgets) keys′
       (set rest i (getD rest i 0 - long))
-      (set postponed i (getD postponed i 0 + postponements))
+      postponed′
       interrupted′
       list′
       c′
@@ -64,91 +54,97 @@ module _ {w : Work} {lent ends : List ℕ} {t j next : ℕ} {d : Dispatcher} {ke
         of-job = p .of-job;
         room = omega (arith, p .of-time);
         further = p .further;
-        set-now = subst (Set keys keys′ i) (p .key-is) set-now;
+        set-now = subst (Set keys keys′ i) (p .key-is) (g .set-now);
         rest-is = ap (λ (n : ℕ). set rest i (getD rest i 0 - n)) (p .gone-is);
-        postponed-is = ap (λ (n : ℕ). set postponed i (getD postponed i 0 + n)) (p .postponed-is);
+        postponed-is = g .postponed-is ∙ ap (λ (n : ℕ). set postponed i (getD postponed i 0 + n)) (p .postponed-is);
         interrupted-is =
-            interrupted-is
+            g .interrupted-is
             ∙ ap
             (λ (s : Server).
-            interruptedOn (after-ticks c t i (serverAt d i .deadline) s) (t + ticks) i s budgets
+            interruptedOn (after-ticks c t i (serverAt d i .deadline) s) (t + g .ticks) i s (g .budgets)
             (interruptedThen c i (serverAt d i .deadline) interrupted))
             (p .after-is);
         list-is =
-            list-is
+            g .list-is
             ∙ ap
             (λ (s : Server).
-            traceOn (after-ticks c t i (serverAt d i .deadline) s) (t + ticks) i s budgets (traceThen c t i (serverAt d i .deadline) list))
+            traceOn (after-ticks c t i (serverAt d i .deadline) s) (t + g .ticks) i s (g .budgets) (traceThen c t i (serverAt d i .deadline) list))
             (p .after-is);
         current-is =
-            current-is
-            ∙ ap (λ (s : Server). currentOn (after-ticks c t i (serverAt d i .deadline) s) (t + ticks) i s budgets) (p .after-is);
+            g .current-is
+            ∙ ap (λ (s : Server). currentOn (after-ticks c t i (serverAt d i .deadline) s) (t + g .ticks) i s (g .budgets)) (p .after-is);
       }
 
-  dispatcher-is : dispatcherAfter d t i ticks budgets ≡ movedTo d (t + long) i last
+  dispatcher-is : dispatcherAfter d t i (g .ticks) (g .budgets) ≡ movedTo d (t + long) i last
   dispatcher-is = ap₂ (λ (n : ℕ) (s : Server). movedTo d (t + n) i s) (sym (p .gone-is)) (sym (p .last-is))
 
   -- where some of the job is left
-  pub spell-ran : (getD rest i 0 ≡ long → ⊥)
+  spell-ran : (getD rest i 0 ≡ long → ⊥)
       → Travels w lent ends (t + long) j next (movedTo d (t + long) i last) keys′ work (set rest i (getD rest i 0 - long))
-      (set postponed i (getD postponed i 0 + postponements))
+      postponed′
       interrupted′
       list′
       finishes
-      records
       c′
   spell-ran leaves =
       subst₂
       (λ (n : ℕ) (x : Dispatcher).
       Travels w lent ends (t + n) j next x keys′ work (set rest i (getD rest i 0 - long))
-      (set postponed i (getD postponed i 0 + postponements))
+      postponed′
       interrupted′
       list′
       finishes
-      records
       c′)
       (sym (p .gone-is))
       dispatcher-is
-      (travels-ran fit v ahead i server works is b some ticks happens (λ e. leaves (e ∙ sym (p .gone-is))))
+      (travels-ran fit v ahead i server works is b some (g .ticks) happens (λ e. leaves (e ∙ sym (p .gone-is))))
 
   -- and where it has ended
-  pub spell-ended : w .arrivals ≤ length ends → getD rest i 0 ≡ long
-      → Travels w lent ends (t + long) j next (movedTo d (t + long) i last) keys′ (set work i (getD work i 0 + 1))
+  spell-ended : w .arrivals ≤ length ends → getD rest i 0 ≡ long → {behind : ℕ} → NextJob w i (suc (getD work i 0)) behind
+      → Travels w lent ends (t + long) j next (movedTo d (t + long) i last) keys′ (set work i behind)
       (set rest i (getD rest i 0 - long))
-      (set postponed i (getD postponed i 0 + postponements))
+      postponed′
       interrupted′
       list′
       (set finishes (getD work i 0) (t + long))
-      (set records i (withOne (getD records i summary.blank) (t + long - w .arrival (getD work i 0) .moment .tick)))
       c′
-  spell-ended places e =
+  spell-ended places e {behind} next-one =
       subst₂
       (λ (n : ℕ) (x : Dispatcher).
-      Travels w lent ends (t + n) j next x keys′ (set work i (getD work i 0 + 1)) (set rest i (getD rest i 0 - long))
-      (set postponed i (getD postponed i 0 + postponements))
+      Travels w lent ends (t + n) j next x keys′ (set work i behind) (set rest i (getD rest i 0 - long))
+      postponed′
       interrupted′
       list′
       (set finishes (getD work i 0) (t + n))
-      (set records i (withOne (getD records i summary.blank) (t + n - w .arrival (getD work i 0) .moment .tick)))
       c′)
       (sym (p .gone-is))
       dispatcher-is
-      (travels-ended fit v ahead i server works is b some ticks happens places (e ∙ p .gone-is))
+      (travels-ended fit v ahead i server works is b some (g .ticks) happens places (e ∙ p .gone-is) next-one)
 
--- a finish list and records that are equal to these stand for them
-pub travels-with : {w : Work} {lent ends : List ℕ} {t j next : ℕ} {d : Dispatcher}
-    {keys job left postponed interrupted list finishes finishes′ : List ℕ} {records records′ : List Summary} {c : Current}
-    → finishes′ ≡ finishes → records′ ≡ records
-    → Travels w lent ends t j next d keys job left postponed interrupted list finishes records c
-    → Travels w lent ends t j next d keys job left postponed interrupted list finishes′ records′ c
-travels-with {w} {lent} {ends} {t} e f v =
-    record {
-      stands = v .stands;
-      next-is = v .next-is;
-      horizon = v .horizon;
-      keyed = v .keyed;
-      jobs = v .jobs;
-      counts = v .counts;
-      ended = subst₂ (Ended w t ends) (sym e) (sym f) (v .ended);
-      segmented = v .segmented;
-    }
+  -- whichever of the two it is
+  pub spell-went : w .arrivals ≤ length ends → {behind work′ rest′ finishes′ : List ℕ}
+      → NextJob w i (suc (getD work i 0)) (getD behind (getD work i 0) 0)
+      → WentOn i long (t + long) behind work rest finishes work′ rest′ finishes′
+      → Travels w lent ends (t + long) j next (movedTo d (t + long) i last) keys′ work′ rest′ postponed′ interrupted′ list′ finishes′ c′
+  spell-went places {behind} {work′} {rest′} {finishes′} next-one went =
+      subst⁻¹
+      (λ (l : List ℕ).
+      Travels w lent ends (t + long) j next (movedTo d (t + long) i last) keys′ work′ l postponed′ interrupted′ list′ finishes′ c′)
+      (went .left-is)
+      (go (decLt 0 (getD rest i 0 - long)))
+    where
+      standing : List ℕ → List ℕ → Type 0
+      standing l m =
+          Travels w lent ends (t + long) j next (movedTo d (t + long) i last) keys′ l (set rest i (getD rest i 0 - long)) postponed′
+          interrupted′
+          list′
+          m
+          c′
+
+      go : Dec (0 < getD rest i 0 - long) → standing work′ finishes′
+      go (yes some) =
+          let same = went .goes-on some in
+          subst₂ standing (sym (same .0)) (sym (same .1)) (spell-ran (λ e. let no : ⊥ = omega arith in no))
+      go (no l) =
+          let ended = went .ends (omega arith) in
+          subst₂ standing (sym (ended .0)) (sym (ended .1)) (spell-ended places (omega (arith, p .gone-rest)) next-one)

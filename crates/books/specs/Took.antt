@@ -1,4 +1,4 @@
--- A run at moment t whose arrivals of t are all taken, and the way there, one arrival after the other.
+-- The arrivals of a moment are taken, one after the other.
 use Prim.Native.Nat.{ℕ, suc, _+_, _*_, _≤_, _<_}
 use mathlib.Core.List.{List}
 use mathlib.Core.Path.{_≡_, sym, _∙_, ap, subst, subst⁻¹}
@@ -20,11 +20,6 @@ use Rattle.books.specs.Keys.{keyOf, Keyed, keyed-set}
 use Rattle.books.specs.Stands.{Stands, stands-within, stands-count, stands-arrival, arrival-other}
 use Rattle.books.specs.Winners.{Set}
 
-pub record Took (w : Work) (t : ℕ) (keys : List ℕ) (d : Dispatcher) (j : ℕ) : Type 0 where
-  pub stands : Stands w t j d
-  pub keyed : Keyed keys d
-  pub later : (a : ℕ) → j ≤ a → a < w .arrivals → t < w .arrival a .moment .tick
-
 -- arrival j was taken by d, which is e then: only its server i differs, and the key of that one fits 64 bits
 pub record TookOne (w : Work) (t j i : ℕ) (d e : Dispatcher) : Type 0 where
   pub stands : Stands w t (suc j) e
@@ -39,15 +34,6 @@ one-keyed {i = i} {keys = keys} {after = after} one keyed key-is key-set =
     keyed-set i keyed (one .others) (subst (Set keys after i) key-is key-set)
 
 module _ {w : Work} {places t j : ℕ} {d : Dispatcher} (fit : Fit w places) (s : Stands w t j d) where
-  -- where arrival j is later than t, so are all behind it
-  pub took-till-later : {keys : List ℕ} → Keyed keys d → t < w .arrival j .moment .tick → Took w t keys d j
-  took-till-later keyed late =
-      record { stands = s; keyed = keyed; later = λ a l b. omega (arith, late, in-order-all fit j a l b) }
-
-  -- behind the last arrival none is left
-  pub took-all : {keys : List ℕ} → Keyed keys d → w .arrivals ≤ j → Took w t keys d j
-  took-all keyed all = record { stands = s; keyed = keyed; later = λ a l b. let no : ⊥ = omega arith in absurd no }
-
   -- arrival j as it was read, which is not later than t
   module _ (end : t ≤ clockEnd) (more : j < w .arrivals) (a : Arrival) (read : a ≡ w .arrival j) (due : a .moment .tick ≤ t) where
     now : w .arrival j .moment .tick ≡ t
@@ -84,20 +70,20 @@ pub record Taking (w : Work) (t j : ℕ) (d : Dispatcher) (keys : List ℕ) (k n
   pub from : j ≤ k
   pub next-is : next ≡ nextMoment w k
 
--- Where the next arrival is due, more are taken.
+-- Where the next moment is due before the horizon, there is an arrival of it, and that is taken.
 module _ {w : Work} {t j k next : ℕ} {d : Dispatcher} {keys : List ℕ} (g : Taking w t j d keys k next) (horizon : t < w .horizon .tick)
-    (due : next ≤ t) {after : List ℕ} {e : Dispatcher} {l : ℕ} (took : Took w t after e l) where
-  pub takes-more : k < l
-  takes-more = go (decLt k (w .arrivals))
+    (due : next ≤ t) where
+  pub due-here : k < w .arrivals
+  due-here = go (decLt k (w .arrivals))
     where
-      fewer : k < w .arrivals → Dec (k < l) → k < l
-      fewer b (yes q) = q
-      fewer b (no q) = let no : ⊥ = omega (arith, g .next-is, next-arrival w k b, took .later k (omega arith) b) in absurd no
-
-      go : Dec (k < w .arrivals) → k < l
-      go (yes b) = fewer b (decLt k l)
+      go : Dec (k < w .arrivals) → k < w .arrivals
+      go (yes b) = b
       go (no b) = let no : ⊥ = omega (arith, g .next-is, next-horizon w k (omega arith)) in absurd no
 
-  pub taking-more : (then : ℕ) → then ≡ nextMoment w l → Taking w t j e after l then
-  taking-more then is =
-      record { stands = took .stands; keyed = took .keyed; from = omega (arith, g .from, takes-more); next-is = is }
+  pub due-now : w .arrival k .moment .tick ≤ t
+  due-now = omega (arith, g .next-is, next-arrival w k due-here)
+
+  pub taking-more : {after : List ℕ} {e : Dispatcher} {then : ℕ} → Stands w t (suc k) e → Keyed after e → then ≡ nextMoment w (suc k)
+      → Taking w t j e after (suc k) then
+  taking-more stands keyed is =
+      record { stands = stands; keyed = keyed; from = omega (arith, g .from); next-is = is }

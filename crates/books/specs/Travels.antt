@@ -25,8 +25,6 @@ use Rattle.moments.specs.OneGoLaws.{served-budget}
 use Rattle.server.specs.declared.Server.{Server}
 use Rattle.server.specs.Server.{blank}
 use Rattle.sizes.specs.Sizes.{mostServers}
-use Rattle.summary.specs.declared.Summary.{Summary}
-use Rattle.summary.specs.Summary as summary
 use Rattle.workfile.specs.Work.{Work}
 use Rattle.books.specs.Accepted.{nextMoment, next-arrival, next-horizon}
 use Rattle.books.specs.Budgets.{budgetsOn, ranBudgets, currentOn, traceOn, interruptedOn, Further, wins-picked}
@@ -34,7 +32,7 @@ use Rattle.books.specs.Onward.{On, on-all}
 use Rattle.books.specs.declared.Current.{Current}
 use Rattle.books.specs.Events.{idle-stands}
 use Rattle.books.specs.Goes.{Jobs, Counts, Ended, jobs-start, counts-start, ended-start, jobs-later, idle-jobs, idle-counts, idle-ended, idle-segmented, ran-stands, ran-other, ran-own, ran-counts, ran-counts-spent, ran-segmented}
-use Rattle.books.specs.Jobs.{job-waiting}
+use Rattle.books.specs.Jobs.{NextJob, job-waiting}
 use Rattle.books.specs.Keys.{keyOf, key-idle, Keyed, keyed-set, root-none, root-picked}
 use Rattle.books.specs.Segmented.{Segmented, atRest, segmented-start, withWaits}
 use Rattle.books.specs.Stands.{Stands, stands-start, stands-within, stands-clock, start-waits-none}
@@ -45,14 +43,14 @@ use Rattle.books.specs.Winners.{Set, winners-same}
 -- With `lent` and `ends` the two lent lists at the start: the run stands at t with j arrivals taken, and `next` is the moment of the
 -- next one, or the horizon.
 pub record Travels (w : Work) (lent ends : List ℕ) (t j next : ℕ) (d : Dispatcher) (keys job left postponed interrupted list finishes : List ℕ)
-    (records : List Summary) (c : Current) : Type 0 where
+    (c : Current) : Type 0 where
   pub stands : Stands w t j d
   pub next-is : next ≡ nextMoment w j
   pub horizon : t ≤ w .horizon .tick
   pub keyed : Keyed keys d
   pub jobs : Jobs w t j job left
   pub counts : Counts w t postponed
-  pub ended : Ended w t ends finishes records
+  pub ended : Ended w t ends finishes
   pub segmented : Segmented w lent list interrupted c t
 
 -- at the start every server is idle
@@ -63,34 +61,33 @@ start-keyed w =
       keys = λ i b. getD-replicate 128 (64 + i) lastTick 0 (omega arith) ∙ sym (key-idle (serverAt (atMoment w 0) i) i (eq-eqb _ _ (start-waits-none w i)));
     }
 
--- at the start, with the finish list as it is when every job is open
-pub travels-start : {w : Work} (lent ends : List ℕ) {next : ℕ} {d : Dispatcher} {records : List Summary} → Fit w (length ends)
+-- at the start, with the finish list as it is when every job is open, and the first job of each server
+pub travels-start : {w : Work} (lent ends : List ℕ) {next : ℕ} {d : Dispatcher} {first : List ℕ} → Fit w (length ends)
     → ends ≡ finishList (w .arrivals) (λ k. isOpen) ends → d ≡ atMoment w 0 → next ≡ nextMoment w 0
-    → records ≡ replicate mostServers summary.blank
-    → Travels w lent ends 0 0 next d (replicate 128 lastTick) (replicate mostServers 0) (replicate mostServers 0) (replicate mostServers 0)
+    → length first ≡ mostServers → ((i : ℕ) → i < mostServers → NextJob w i 0 (getD first i 0))
+    → Travels w lent ends 0 0 next d (replicate 128 lastTick) first (replicate mostServers 0) (replicate mostServers 0)
     (replicate mostServers 0)
     lent
     ends
-    records
     atRest
-travels-start {w} lent ends fit opened at-start next-is blank-records =
+travels-start {w} lent ends fit opened at-start next-is long firsts =
     record {
       stands = subst⁻¹ (Stands w 0 0) at-start (stands-start w);
       next-is = next-is;
       horizon = omega arith;
       keyed = subst⁻¹ (Keyed (replicate 128 lastTick)) at-start (start-keyed w);
-      jobs = jobs-start w;
+      jobs = jobs-start long firsts;
       counts = counts-start w;
-      ended = subst₂ (Ended w 0 ends) (sym opened) (sym blank-records) (ended-start ends fit);
+      ended = subst⁻¹ (Ended w 0 ends) opened (ended-start ends fit);
       segmented = segmented-start w lent;
     }
 
 module _ {w : Work} {lent ends : List ℕ} {t j next : ℕ} {d : Dispatcher} {keys job left postponed interrupted list finishes : List ℕ}
-    {records : List Summary} {c : Current} (fit : Fit w (length ends))
-    (v : Travels w lent ends t j next d keys job left postponed interrupted list finishes records c) where
+    {c : Current} (fit : Fit w (length ends))
+    (v : Travels w lent ends t j next d keys job left postponed interrupted list finishes c) where
   -- the arrivals of t are taken
   pub travels-taking : {after : List ℕ} {e : Dispatcher} {k then : ℕ} → Taking w t j e after k then
-      → Travels w lent ends t k then e after job left postponed interrupted list finishes records c
+      → Travels w lent ends t k then e after job left postponed interrupted list finishes c
   travels-taking g =
       record {
         stands = g .stands;
@@ -123,7 +120,6 @@ module _ {w : Work} {lent ends : List ℕ} {t j next : ℕ} {d : Dispatcher} {ke
         → Travels w lent ends next j next (laterBy d (next - t)) keys job left postponed (interruptedThen c mostServers (moment 0) interrupted)
         (traceThen c t mostServers (moment 0) list)
         finishes
-        records
         (withWaits (currentThen c t mostServers (moment 0)) (c .waits))
     travels-idle root = go (next - t) refl
       where
@@ -134,7 +130,6 @@ module _ {w : Work} {lent ends : List ℕ} {t j next : ℕ} {d : Dispatcher} {ke
             → Travels w lent ends next j next (laterBy d k) keys job left postponed (interruptedThen c mostServers (moment 0) interrupted)
             (traceThen c t mostServers (moment 0) list)
             finishes
-            records
             (withWaits (currentThen c t mostServers (moment 0)) (c .waits))
         go zero q = let no : ⊥ = omega arith in absurd no
         go (suc k) q =
@@ -143,7 +138,6 @@ module _ {w : Work} {lent ends : List ℕ} {t j next : ℕ} {d : Dispatcher} {ke
             Travels w lent ends u j next (laterBy d (suc k)) keys job left postponed (interruptedThen c mostServers (moment 0) interrupted)
             (traceThen c t mostServers (moment 0) list)
             finishes
-            records
             (withWaits (currentThen c t mostServers (moment 0)) (c .waits)))
             reach
             record {
@@ -209,8 +203,8 @@ module _ {w : Work} {lent ends : List ℕ} {t j next : ℕ} {d : Dispatcher} {ke
       other-now = ran-other fit (v .stands) k to-horizon none-before i pick b some inside budget
 
       -- and then it goes on for n whole budgets, of whatever jobs and finishes stand then
-      module _ {work′ rest′ finishes′ : List ℕ} {records′ : List Summary} (jobs′ : Jobs w (t + suc k) j work′ rest′)
-          (ended′ : Ended w (t + suc k) ends finishes′ records′) (spare n : ℕ) (of-job : spare ≤ getD rest′ i 0)
+      module _ {work′ rest′ finishes′ : List ℕ} (jobs′ : Jobs w (t + suc k) j work′ rest′)
+          (ended′ : Ended w (t + suc k) ends finishes′) (spare n : ℕ) (of-job : spare ≤ getD rest′ i 0)
           (room : t + suc k + spare ≤ next) (further : Further keys i (servedFor (serverAt d i) (suc k)) spare n) where
         -- Further, said of the server where it stands
         further-own : Further keys i (serverAt (ranFor d i (suc k)) i) spare n
@@ -234,7 +228,6 @@ module _ {w : Work} {lent ends : List ℕ} {t j next : ℕ} {d : Dispatcher} {ke
             (traceThen c t i (serverAt d i .deadline) list)
             (interruptedThen c i (serverAt d i .deadline) interrupted)
             finishes′
-            records′
             currentNow
             n
         on-now = go (serverAt (ranFor d i (suc k)) i .budget .ticks) refl
@@ -244,7 +237,6 @@ module _ {w : Work} {lent ends : List ℕ} {t j next : ℕ} {d : Dispatcher} {ke
                 (traceThen c t i (serverAt d i .deadline) list)
                 (interruptedThen c i (serverAt d i .deadline) interrupted)
                 finishes′
-                records′
                 currentNow
                 n
             go zero q = let no : ⊥ = omega (arith, within-now .servers i (pick .among) .budget) in absurd no
@@ -336,7 +328,6 @@ module _ {w : Work} {lent ends : List ℕ} {t j next : ℕ} {d : Dispatcher} {ke
             (interruptedOn currentNow (t + suc k) i then n (interruptedThen c i (serverAt d i .deadline) interrupted))
             (traceOn currentNow (t + suc k) i then n (traceThen c t i (serverAt d i .deadline) list))
             finishes′
-            records′
             (currentOn currentNow (t + suc k) i then n)
         travels-then set-now =
             record {
@@ -347,7 +338,7 @@ module _ {w : Work} {lent ends : List ℕ} {t j next : ℕ} {d : Dispatcher} {ke
               jobs =
                   subst (λ (q : ℕ). Jobs w (t + suc k + n * q) j work′ (set rest′ i (getD rest′ i 0 - n * q))) same-budget (on-now .jobs);
               counts = subst₂ (λ (u : ℕ) (l : List ℕ). Counts w u l) time-is postponed-is (on-now .counts);
-              ended = subst (λ (u : ℕ). Ended w u ends finishes′ records′) time-is (on-now .ended);
+              ended = subst (λ (u : ℕ). Ended w u ends finishes′) time-is (on-now .ended);
               segmented =
                   subst
                   (λ (u : ℕ).

@@ -31,6 +31,10 @@ pub(crate) fn further(keys: &[u64; 128], i: usize, s: Server, spare: u64) -> u64
     if spare <= budget {
         return 0;
     }
+    // The least key of the half of the servers that i is not of: mostly it comes first, and the others need not be looked at.
+    if keys[3 - i / 32] <= own {
+        return 0;
+    }
     let rival = tree::rival(keys, i);
     if rival <= own {
         return 0;

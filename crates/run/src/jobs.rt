@@ -1,30 +1,82 @@
-// The job that a server serves.
-ghost use Prim.Native.Nat.{_<_};
+// The jobs of each server, one behind the other, and the one that it serves.
+ghost use Prim.Native.Nat.{_≤_, _<_};
+ghost use lib.ListN.{length, getD, replicate};
+ghost use mathlib.Core.Path.{_≡_};
 ghost use Rattle.books.specs.Accepted.{Accepted};
-ghost use Rattle.books.specs.Opened.{Opened, Served};
+ghost use Rattle.books.specs.Lined.{Lined};
+ghost use Rattle.books.specs.Opened.{Opened, Served, WentOn};
+ghost use Rattle.sizes.specs.Sizes.{clockEnd, mostArrivals, mostServers};
 ghost use Rattle.workfile.specs.Work.{work};
 use crate::reading;
 
-// Where nothing is left of the job of server i, its next job is opened; there is one.
-pub(crate) fn open_next(
+// The first job of each server, and the job behind each, from the last arrival to the first. Where there is none it is the count of
+// all arrivals, which `first` holds everywhere at the start.
+pub(crate) fn line_up(
     file: &[u8],
-    job: &mut [usize; sizes::MOST_SERVERS],
-    left: &mut [u64; sizes::MOST_SERVERS],
-    i: usize,
+    first: &mut [usize; sizes::MOST_SERVERS],
+    behind: &mut [usize; sizes::MOST_ARRIVALS],
 )
     requires { ⌜ Accepted (now file) ⌝ }
+    requires { ⌜ now first ≡ replicate mostServers (work (now file) .arrivals) ⌝ }
+    requires { ⌜ now behind ≡ replicate mostArrivals 0 ⌝ }
+    ensures { λ _. ⌜ Lined (work (now (file .entry))) 0 (now (first .exit)) (now (behind .exit)) ⌝ }
+{
+    let h = workfile::header_of(file);
+    let mut k = h.arrivals.count;
+    while k > 0 {
+        k -= 1;
+        let a = reading::arrival_of(file, k);
+        let i = a.server;
+        behind[k] = first[i];
+        first[i] = k;
+    }
+}
+
+// What is left of the job that server i serves. Where that is nothing, its next job is opened; there is one.
+pub(crate) fn left_of(
+    file: &[u8],
+    job: &[usize; sizes::MOST_SERVERS],
+    left: &mut [u64; sizes::MOST_SERVERS],
+    i: usize,
+) -> u64
+    requires { ⌜ Accepted (now file) ⌝ }
     requires { ⌜ i < 64 ⌝ }
+    requires { ⌜ length (now left) ≡ mostServers ⌝ }
     requires { ⌜ Served (work (now file)) i (now job) (now left) ⌝ }
-    ensures { λ _. ⌜ Opened (work (now (file .entry))) i (now (job .entry)) (now (left .entry)) (now (job .exit)) (now (left .exit)) ⌝ }
+    ensures { λ r. ⌜ Opened (work (now (file .entry))) i (now (job .entry)) (now (left .entry)) (now (left .exit)) r ⌝ }
 {
     let rest = left[i];
     if rest > 0 {
-        return;
+        return rest;
     }
-    let from = job[i];
-    let k = reading::next_job(file, from, i);
-    let a = reading::arrival_of(file, k);
+    let a = reading::arrival_of(file, job[i]);
     let cost = a.cost.ticks;
-    job[i] = k;
     left[i] = cost;
+    cost
+}
+
+// Server i has run so many ticks of its job until t. Where nothing is left of it, it has finished, and the job behind it is next.
+pub(crate) fn go_on(
+    finishes: &mut [u32],
+    behind: &[usize; sizes::MOST_ARRIVALS],
+    job: &mut [usize; sizes::MOST_SERVERS],
+    left: &mut [u64; sizes::MOST_SERVERS],
+    i: usize,
+    ticks: u64,
+    t: u64,
+)
+    requires { ⌜ i < 64 ⌝ }
+    requires { ⌜ ticks ≤ getD (now left) i 0 ⌝ }
+    requires { ⌜ getD (now job) i 0 < mostArrivals ⌝ }
+    requires { ⌜ getD (now job) i 0 < length (now finishes) ⌝ }
+    requires { ⌜ t ≤ clockEnd ⌝ }
+    ensures { λ _. ⌜ WentOn i ticks t (now (behind .entry)) (now (job .entry)) (now (left .entry)) (now (finishes .entry)) (now (job .exit)) (now (left .exit)) (now (finishes .exit)) ⌝ }
+{
+    let rest = left[i] - ticks;
+    left[i] = rest;
+    if rest == 0 {
+        let ended = job[i];
+        finishes[ended] = t as u32;
+        job[i] = behind[ended];
+    }
 }

@@ -17,6 +17,7 @@ mod tree;
 ghost use mathlib.Core.Path.{_≡_};
 ghost use lib.ListN.{length};
 ghost use Rattle.judgement.specs.Judgement.{judged};
+ghost use Rattle.records.specs.Records.{filled, recordsOf};
 ghost use Rattle.refusal.specs.Refusals.{accepted};
 ghost use Rattle.workfile.specs.Work.{work};
 ghost use Rattle.run.specs.Outcome.{accepting, outcome, says};
@@ -51,16 +52,30 @@ fn play(file: &[u8], list: &mut [u64], finishes: &mut [u32]) -> Ran
     requires { ⌜ judged (now file) (length (now finishes)) ≡ accepted ⌝ }
     ensures { λ r. ⌜ says r (now (list .exit)) (now (finishes .exit)) ≡ accepting (work (now (file .entry))) (now (list .entry)) (now (finishes .entry)) ⌝ }
 {
-    let h = workfile::header_of(file);
     let went = travel::travel(file, list, finishes);
-    let arrived = ending::count_arrivals(file);
-    let records = went.records;
     let postponed = went.postponed;
     let interrupted = went.interrupted;
-    let summaries = ending::fill(records, h.servers.count, &arrived, &postponed, &interrupted);
     Ran {
         verdict: Verdict::Accepted,
         segments: went.segments,
-        summaries,
+        summaries: summaries(file, finishes, &postponed, &interrupted),
     }
+}
+
+// The summaries of a run that has left this finish list and these counts.
+fn summaries(
+    file: &[u8],
+    finishes: &[u32],
+    postponed: &[u64; sizes::MOST_SERVERS],
+    interrupted: &[u64; sizes::MOST_SERVERS],
+) -> [Summary; sizes::MOST_SERVERS]
+    ensures { λ r. ⌜ r ≡ filled (work (now (file .entry)) .table .count) (now (postponed .entry)) (now (interrupted .entry)) (recordsOf (work (now (file .entry))) (now (finishes .entry))) ⌝ }
+{
+    let h = workfile::header_of(file);
+    records::fill(
+        records::of_jobs(file, finishes),
+        h.servers.count,
+        postponed,
+        interrupted,
+    )
 }

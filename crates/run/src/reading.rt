@@ -1,8 +1,7 @@
 // The arrivals of an accepted file, read where they lie.
 ghost use mathlib.Core.Path.{_≡_};
-ghost use Prim.Native.Nat.{_≤_, _<_};
-ghost use Rattle.books.specs.Accepted.{Accepted, NextJob, nextMoment};
-ghost use Rattle.finish.specs.Finish.{workOf};
+ghost use Prim.Native.Nat.{_<_};
+ghost use Rattle.books.specs.Accepted.{Accepted, nextMoment};
 ghost use Rattle.workfile.specs.Work.{work};
 use arrival::Arrival;
 
@@ -30,23 +29,4 @@ pub(crate) fn next_moment(file: &[u8], j: usize) -> u64
         return a.moment.tick;
     }
     horizon
-}
-
-// The next job of server i from `from` on; there is one.
-pub(crate) fn next_job(file: &[u8], from: usize, i: usize) -> usize
-    requires { ⌜ Accepted (now file) ⌝ }
-    requires { ⌜ workOf (work (now file)) i from < workOf (work (now file)) i (work (now file) .arrivals) ⌝ }
-    ensures { λ r. ⌜ NextJob (work (now (file .entry))) i from r ⌝ }
-{
-    let h = workfile::header_of(file);
-    let count = h.arrivals.count;
-    let mut k = from;
-    while k < count {
-        let a = arrival_of(file, k);
-        if a.server == i {
-            return k;
-        }
-        k += 1;
-    }
-    k
 }

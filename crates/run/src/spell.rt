@@ -1,34 +1,85 @@
 // One spell of the server that is picked: how many ticks of its job it runs at once, and for how many whole budgets it then goes on.
 ghost use mathlib.Core.Path.{_≡_};
 ghost use Prim.Native.Nat.{_+_, _*_, _≤_, _<_};
+ghost use lib.ListN.{getD};
 ghost use Rattle.books.specs.Budgets.{Able, NoneAbove, currentOn, interruptedOn, traceOn};
 ghost use Rattle.books.specs.Planned.{Planned};
 ghost use Rattle.books.specs.Segmented.{withWaits};
 ghost use Rattle.books.specs.Turns.{currentThen, interruptedThen, traceThen};
+ghost use Rattle.books.specs.Went.{Went};
 ghost use Rattle.books.specs.Winners.{Winners};
 ghost use Rattle.sizes.specs.Sizes.{clockEnd, mostFrame};
 use crate::budgets;
 use crate::serving;
 use crate::stretches;
+use crate::tree;
 use books::Current;
 use clock::Moment;
 use server::Server;
 
-pub struct Spell {
-    pub ticks: u64,
+struct Spell {
+    ticks: u64,
     // The server after these ticks.
-    pub after: Server,
-    pub budgets: u64,
+    after: Server,
+    budgets: u64,
     // And after the budgets, with its key.
-    pub last: Server,
-    pub key: u64,
+    last: Server,
+    key: u64,
     // How long it takes in all, and how often the server is postponed.
-    pub gone: u64,
-    pub postponed: u64,
+    gone: u64,
+    postponed: u64,
+}
+
+pub struct Gone {
+    // The server after the spell, and the stretch that the run is in then.
+    pub server: Server,
+    pub current: Current,
+    // How long it took.
+    pub ticks: u64,
+}
+
+// Server i goes for a spell from t on, with `rest` of its job left, and `room` ticks to the next arrival or the horizon.
+pub(crate) fn go(
+    list: &mut [u64],
+    keys: &mut [u64; 128],
+    postponed: &mut [u64; sizes::MOST_SERVERS],
+    interrupted: &mut [u64; sizes::MOST_SERVERS],
+    c: Current,
+    t: u64,
+    i: usize,
+    s: Server,
+    rest: u64,
+    room: u64,
+) -> Gone
+    requires { ⌜ i < 64 ⌝ }
+    requires { ⌜ Winners (now keys) ⌝ }
+    requires { ⌜ Able s ⌝ }
+    requires { ⌜ s .deadline .tick ≤ mostFrame * clockEnd ⌝ }
+    requires { ⌜ 0 < rest ⌝ }
+    requires { ⌜ rest ≤ s .waiting .ticks ⌝ }
+    requires { ⌜ 0 < s .remaining .ticks ⌝ }
+    requires { ⌜ 0 < room ⌝ }
+    requires { ⌜ t + room ≤ clockEnd ⌝ }
+    requires { ⌜ c .start .tick ≤ t ⌝ }
+    requires { ⌜ c .count < clockEnd ⌝ }
+    requires { ⌜ NoneAbove t (now interrupted) ⌝ }
+    requires { ⌜ getD (now postponed) i 0 ≤ t ⌝ }
+    ensures { λ r. ⌜ Went t i s rest room c (now (keys .entry)) (now (list .entry)) (now (postponed .entry)) (now (interrupted .entry)) (now (keys .exit)) (now (list .exit)) (now (postponed .exit)) (now (interrupted .exit)) (r .current) (r .server) (r .ticks) ⌝ }
+{
+    let p = plan(keys, i, s, rest, room);
+    let current = pass_through(list, interrupted, c, t, i, s.deadline, p);
+    tree::set_key(keys, i, p.key);
+    postponed[i] += p.postponed;
+    let server = p.last;
+    Gone {
+        server,
+        current,
+        ticks: p.gone,
+    }
 }
 
 // With `rest` of its job left, and `room` ticks to the next arrival or the horizon.
-pub(crate) fn plan(keys: &[u64; 128], i: usize, s: Server, rest: u64, room: u64) -> Spell
+fn plan(keys: &[u64; 128], i: usize, s: Server, rest: u64, room: u64) -> Spell
     requires { ⌜ i < 64 ⌝ }
     requires { ⌜ Winners (now keys) ⌝ }
     requires { ⌜ Able s ⌝ }
@@ -61,7 +112,7 @@ pub(crate) fn plan(keys: &[u64; 128], i: usize, s: Server, rest: u64, room: u64)
 }
 
 // The stretches of a spell of server i from t on, and the one that the run is in then.
-pub(crate) fn pass_through(
+fn pass_through(
     list: &mut [u64],
     interrupted: &mut [u64; sizes::MOST_SERVERS],
     c: Current,

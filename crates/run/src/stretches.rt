@@ -2,13 +2,53 @@
 ghost use mathlib.Core.Path.{_≡_};
 ghost use Prim.Native.Nat.{_≤_, _<_};
 ghost use lib.ListN.{getD};
+ghost use Rattle.books.specs.Segmented.{atRest};
 ghost use Rattle.books.specs.Stretches.{traceAfter, countAfter, interruptedAfter};
 ghost use Rattle.books.specs.Turns.{stays, currentThen, traceThen, interruptedThen};
-ghost use Rattle.clock.specs.Clock.{lastTick};
+ghost use Rattle.clock.specs.Clock.{lastTick, moment};
+ghost use Rattle.sizes.specs.Sizes.{mostServers};
 use books::Current;
 use clock::Length;
 use clock::Moment;
 use trace::Segment;
+
+// The stretch at the start: nobody's, and of no length.
+pub(crate) fn at_rest() -> Current
+    ensures { λ r. ⌜ r ≡ atRest ⌝ }
+{
+    let start = Moment { tick: 0 };
+    Current {
+        start,
+        server: sizes::MOST_SERVERS,
+        deadline: start,
+        waits: 0,
+        count: 0,
+    }
+}
+
+// The tick at t goes to nobody.
+pub(crate) fn idle(
+    list: &mut [u64],
+    interrupted: &mut [u64; sizes::MOST_SERVERS],
+    c: Current,
+    t: u64,
+) -> Current
+    requires { ⌜ c .start .tick ≤ t ⌝ }
+    requires { ⌜ c .count < lastTick ⌝ }
+    requires { ⌜ getD (now interrupted) (c .server) 0 < lastTick ⌝ }
+    ensures { λ r. ⌜ r ≡ currentThen c t mostServers (moment 0) ⌝ }
+    ensures { λ r. ⌜ now (list .exit) ≡ traceThen c t mostServers (moment 0) (now (list .entry)) ⌝ }
+    ensures { λ r. ⌜ now (interrupted .exit) ≡ interruptedThen c mostServers (moment 0) (now (interrupted .entry)) ⌝ }
+{
+    turn_to(
+        list,
+        interrupted,
+        c,
+        t,
+        sizes::MOST_SERVERS,
+        Moment { tick: 0 },
+    )
+}
 
 // The tick at t goes to server i under this deadline. Where that is another than before, the stretch before it has ended.
 pub(crate) fn turn_to(

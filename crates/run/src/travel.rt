@@ -13,14 +13,10 @@ use crate::starting;
 use crate::stretches;
 use crate::taking;
 use crate::tree;
-use books::Current;
 use clock::Moment;
-use summary::Summary;
 
 pub struct Travelled {
     pub segments: usize,
-    // What has finished, and the counts that are kept beside it until the run ends: they change with every segment.
-    pub records: [Summary; sizes::MOST_SERVERS],
     pub postponed: [u64; sizes::MOST_SERVERS],
     pub interrupted: [u64; sizes::MOST_SERVERS],
 }
@@ -29,80 +25,68 @@ pub struct Travelled {
 pub(crate) fn travel(file: &[u8], list: &mut [u64], finishes: &mut [u32]) -> Travelled
     requires { ⌜ Accepted (now file) ⌝ }
     requires { ⌜ work (now file) .arrivals ≤ length (now finishes) ⌝ }
-    ensures { λ r. ⌜ Came (work (now (file .entry))) (now (list .entry)) (now (finishes .entry)) (now (list .exit)) (now (finishes .exit)) (r .segments) (r .records) (r .postponed) (r .interrupted) ⌝ }
+    ensures { λ r. ⌜ Came (work (now (file .entry))) (now (list .entry)) (now (finishes .entry)) (now (list .exit)) (now (finishes .exit)) (r .segments) (r .postponed) (r .interrupted) ⌝ }
 {
     let h = workfile::header_of(file);
     let horizon = h.horizon.tick;
-    ending::open_all(finishes, h.arrivals.count);
+    let arrivals = h.arrivals.count;
+    ending::open_all(finishes, arrivals);
     let mut d = starting::start(file);
     // The winner tree, in which an idle server has the last number of all for its key.
     let mut keys = [clock::LAST_TICK; 128];
-    // The job that each server serves, and what is left of it.
-    let mut job = [0; sizes::MOST_SERVERS];
+    // The job that each server serves, what is left of it, and the job behind each.
+    let mut job = [arrivals; sizes::MOST_SERVERS];
     let mut left = [0; sizes::MOST_SERVERS];
+    let mut behind = [0; sizes::MOST_ARRIVALS];
+    jobs::line_up(file, &mut job, &mut behind);
     let mut postponed = [0; sizes::MOST_SERVERS];
     let mut interrupted = [0; sizes::MOST_SERVERS];
-    let mut records = summary::blank_records();
-    let mut c = Current {
-        start: Moment { tick: 0 },
-        server: sizes::MOST_SERVERS,
-        deadline: Moment { tick: 0 },
-        waits: 0,
-        count: 0,
-    };
+    let mut c = stretches::at_rest();
     // The moment, how many arrivals are taken, and the moment of the next one, or the horizon.
     let mut t = 0;
     let mut j = 0;
     let mut next = reading::next_moment(file, 0);
     while t < horizon {
-        // At most once: all arrivals of t are taken together.
         while next <= t {
-            let taken = taking::take(file, &mut keys, d, j);
-            d = taken.dispatcher;
-            j = taken.arrivals;
+            d = taking::take(file, &mut keys, d, j);
+            j += 1;
             next = reading::next_moment(file, j);
         }
         let key = keys[1];
         if key == clock::LAST_TICK {
-            c = stretches::turn_to(
-                list,
-                &mut interrupted,
-                c,
-                t,
-                sizes::MOST_SERVERS,
-                Moment { tick: 0 },
-            );
+            c = stretches::idle(list, &mut interrupted, c, t);
             t = next;
             let now = Moment { tick: t };
             d.clock = now;
         } else {
             let i = (key % 64) as usize;
-            jobs::open_next(file, &mut job, &mut left, i);
-            let s = d.servers[i];
-            let rest = left[i];
-            let p = spell::plan(&keys, i, s, rest, next - t);
-            let gone = p.gone;
-            let last = p.last;
-            c = spell::pass_through(list, &mut interrupted, c, t, i, s.deadline, p);
-            tree::set_key(&mut keys, i, p.key);
-            postponed[i] += p.postponed;
-            left[i] = rest - gone;
-            d.servers[i] = last;
-            t += gone;
+            let rest = jobs::left_of(file, &job, &mut left, i);
+            let g = spell::go(
+                list,
+                &mut keys,
+                &mut postponed,
+                &mut interrupted,
+                c,
+                t,
+                i,
+                d.servers[i],
+                rest,
+                next - t,
+            );
+            let ticks = g.ticks;
+            let server = g.server;
+            let current = g.current;
+            c = current;
+            d.servers[i] = server;
+            t += ticks;
             let now = Moment { tick: t };
             d.clock = now;
-            if rest == gone {
-                let ended = job[i];
-                let changed = ending::end_job(file, finishes, records, i, ended, t);
-                records = changed;
-                job[i] = ended + 1;
-            }
+            jobs::go_on(finishes, &behind, &mut job, &mut left, i, ticks, t);
         }
     }
     let segments = stretches::end_segment(list, c, t);
     Travelled {
         segments,
-        records,
         postponed,
         interrupted,
     }

@@ -17,11 +17,23 @@ returns c = further-none _ _ _ _
 returns-2 : tie.Need-returns-2
 returns-2 c = further-none _ _ _ _
 
-rival-requires : tie.Need-rival-requires
-rival-requires c κs = search needs
+sub-if3 : tie.Need-sub-if3
+sub-if3 c = search needs
+
+mul-if3 : tie.Need-mul-if3
+mul-if3 c = search needs
+
+element-copy-out-if3 : tie.Need-element-copy-out-if3
+element-copy-out-if3 c = search needs
 
 returns-3 : tie.Need-returns-3
 returns-3 c = further-none _ _ _ _
+
+rival-requires : tie.Need-rival-requires
+rival-requires c κs = search needs
+
+returns-4 : tie.Need-returns-4
+returns-4 c = further-none _ _ _ _
 
 mul-rises : tie.Need-mul-rises
 mul-rises c = search needs
@@ -32,23 +44,17 @@ rises-requires c κs = search needs
 fits-in-requires : tie.Need-fits-in-requires
 fits-in-requires c κs = search needs
 
-returns-4 : tie.Need-returns-4
-returns-4 c =
-    let start = c .before .before .before .before .before .before .before .before .before in
-    further-some _ _ _ _ (start .pre .1 .1) (c .before .before .before .before .before .before .if1 .left)
-    (c .before .before .before .before .rival .ensures)
-    (c .before .before .rises .ensures)
-    (c .before .fits-in .ensures)
+returns-5 : tie.Need-returns-5
+returns-5 c =
+    let start = c .before .before .before .before .before .before .before .before .before .before .before in
+    further-some _ _ _ _ (start .pre .1 .1) (c .before .before .before .before .before .before .before .before .if1 .left) (c .before .before .before .before .rival .ensures) (c .before .before .rises .ensures) (c .before .fits-in .ensures)
     (omega arith)
     (omega arith)
 
-returns-5 : tie.Need-returns-5
-returns-5 c =
-    let start = c .before .before .before .before .before .before .before .before .before in
-    further-some _ _ _ _ (start .pre .1 .1) (c .before .before .before .before .before .before .if1 .left)
-    (c .before .before .before .before .rival .ensures)
-    (c .before .before .rises .ensures)
-    (c .before .fits-in .ensures)
+returns-6 : tie.Need-returns-6
+returns-6 c =
+    let start = c .before .before .before .before .before .before .before .before .before .before .before in
+    further-some _ _ _ _ (start .pre .1 .1) (c .before .before .before .before .before .before .before .before .if1 .left) (c .before .before .before .before .rival .ensures) (c .before .before .rises .ensures) (c .before .fits-in .ensures)
     (omega arith)
     (omega arith)
 
@@ -60,10 +66,14 @@ further-spec =
     add-own
     returns
     returns-2
-    rival-requires
+    sub-if3
+    mul-if3
+    element-copy-out-if3
     returns-3
+    rival-requires
+    returns-4
     mul-rises
     rises-requires
     fits-in-requires
-    returns-4
-    returns-5)
+    returns-5
+    returns-6)

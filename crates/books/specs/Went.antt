@@ -1,0 +1,35 @@
+-- What a spell of server i leaves that began at t: it went as planned, with the tree, the trace and the counts kept.
+use Prim.Native.Nat.{ℕ, _+_}
+use lib.ListN.{getD, set}
+use mathlib.Core.List.{List}
+use mathlib.Core.Path.{_≡_}
+use Rattle.clock.specs.declared.Moment.{Moment}
+use Rattle.server.specs.declared.Server.{Server}
+use Rattle.books.specs.Budgets.{currentOn, traceOn, interruptedOn}
+use Rattle.books.specs.declared.Current.{Current}
+use Rattle.books.specs.Planned.{Planned}
+use Rattle.books.specs.Segmented.{withWaits}
+use Rattle.books.specs.Turns.{traceThen, interruptedThen, currentThen}
+use Rattle.books.specs.Winners.{Set}
+
+-- the stretch that the run is in after the ticks of a spell
+abbrev pub after-ticks : Current → ℕ → ℕ → Moment → Server → Current
+after-ticks c t i deadline after = withWaits (currentThen c t i deadline) (after .waiting .ticks)
+
+pub record Went (t i : ℕ) (s : Server) (rest room : ℕ) (c : Current)
+    (keys list postponed interrupted keys′ list′ postponed′ interrupted′ : List ℕ) (c′ : Current) (last : Server) (gone : ℕ)
+    : Type 0 where
+  pub ticks : ℕ
+  pub after : Server
+  pub budgets : ℕ
+  pub key : ℕ
+  pub postponements : ℕ
+  pub planned : Planned keys i s rest room ticks after budgets last key gone postponements
+  pub postponed-is : postponed′ ≡ set postponed i (getD postponed i 0 + postponements)
+  pub set-now : Set keys keys′ i key
+  pub current-is : c′ ≡ currentOn (after-ticks c t i (s .deadline) after) (t + ticks) i after budgets
+  pub list-is :
+      list′ ≡ traceOn (after-ticks c t i (s .deadline) after) (t + ticks) i after budgets (traceThen c t i (s .deadline) list)
+  pub interrupted-is :
+      interrupted′
+      ≡ interruptedOn (after-ticks c t i (s .deadline) after) (t + ticks) i after budgets (interruptedThen c i (s .deadline) interrupted)
