@@ -20,6 +20,7 @@ pub mod Picked
 pub mod Planned
 pub mod PlannedLaws
 pub mod Segmented
+pub mod Skips
 pub mod Spells
 pub mod Stands
 pub mod Stretches

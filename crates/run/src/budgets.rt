@@ -1,17 +1,21 @@
 // Whole budgets in one go: a server that has just been postponed and still wins goes on with the next budget.
 ghost use mathlib.Core.Path.{_≡_};
-ghost use Prim.Native.Nat.{_+_, _*_, _≤_, _<_};
+ghost use Prim.Native.Nat.{suc, _+_, _*_, _≤_, _<_};
+ghost use lib.ListN.{length};
 ghost use lib.Dec.{eqb};
 ghost use mathlib.Core.Bool.{cond};
 ghost use Rattle.books.specs.Budgets.{budgetsOn, currentOn, traceOn, interruptedOn, Further, Able, NoneAbove};
 ghost use Rattle.books.specs.BudgetLaws.{RisesBelow};
+ghost use Rattle.books.specs.Skips.{lastOf};
 ghost use Rattle.books.specs.Winners.{Winners};
 ghost use Rattle.clock.specs.Clock.{lastTick};
-ghost use Rattle.sizes.specs.Sizes.{clockEnd};
+ghost use Rattle.sizes.specs.Sizes.{clockEnd, mostServers};
+use crate::serving::lesser;
 use crate::stretches;
 use crate::tree;
 use books::Current;
 use clock::Length;
+use clock::Moment;
 use server::Server;
 
 // For how many whole budgets server i goes on: none where its budget is not full, else as many as there is time and work to spare,
@@ -87,8 +91,74 @@ pub(crate) fn budgets_on(s: Server, n: u64) -> Server
     next
 }
 
-// The stretches of n whole budgets of server i from t on, one after the other.
+// The stretches of n whole budgets of server i from t on, one after the other. Once the list is full their segments are only counted.
 pub(crate) fn pass(
+    list: &mut [u64],
+    interrupted: &mut [u64; sizes::MOST_SERVERS],
+    c: Current,
+    t: u64,
+    i: usize,
+    s: Server,
+    n: u64,
+) -> Current
+    requires { ⌜ i < 64 ⌝ }
+    requires { ⌜ length (now interrupted) ≡ mostServers ⌝ }
+    requires { ⌜ Able s ⌝ }
+    requires { ⌜ t + n * s .budget .ticks ≤ clockEnd ⌝ }
+    requires { ⌜ n * s .budget .ticks ≤ s .waiting .ticks ⌝ }
+    requires { ⌜ c .start .tick ≤ t ⌝ }
+    requires { ⌜ c .count ≤ clockEnd ⌝ }
+    requires { ⌜ NoneAbove clockEnd (now interrupted) ⌝ }
+    ensures { λ r. ⌜ r ≡ currentOn c t i s n ⌝ }
+    ensures { λ r. ⌜ now (list .exit) ≡ traceOn c t i s n (now (list .entry)) ⌝ }
+    ensures { λ r. ⌜ now (interrupted .exit) ≡ interruptedOn c t i s n (now (interrupted .entry)) ⌝ }
+{
+    let shown = lesser(n, until_full(list.len() / 4, c.count));
+    let current = pass_each(list, interrupted, c, t, i, s, shown);
+    if shown == n {
+        return current;
+    }
+    let skipped = n - shown;
+    interrupted[i] += skipped;
+    last_of(t, i, s, n - 1, current.count + skipped as usize)
+}
+
+// After how many budgets a list that holds so many segments is full, when so many have ended: with each but the first one more has.
+fn until_full(held: usize, ended: usize) -> u64
+    requires { ⌜ held < lastTick ⌝ }
+    ensures { λ r. ⌜ 1 ≤ r ⌝ }
+    ensures { λ r. ⌜ held < ended + r ⌝ }
+{
+    if held <= ended {
+        return 1;
+    }
+    (held - ended) as u64 + 1
+}
+
+// The stretch of the budget behind n others, when so many segments have ended.
+fn last_of(t: u64, i: usize, s: Server, n: u64, ended: usize) -> Current
+    requires { ⌜ Able s ⌝ }
+    requires { ⌜ t + n * s .budget .ticks ≤ clockEnd ⌝ }
+    requires { ⌜ n < clockEnd ⌝ }
+    requires { ⌜ suc n * s .budget .ticks ≤ s .waiting .ticks ⌝ }
+    ensures { λ r. ⌜ r ≡ lastOf t i s n ended ⌝ }
+{
+    let budget = s.budget.ticks;
+    let last = budgets_on(s, n);
+    let deadline = last.deadline;
+    Current {
+        start: Moment {
+            tick: t + n * budget,
+        },
+        server: i,
+        deadline,
+        waits: last.waiting.ticks - budget,
+        count: ended,
+    }
+}
+
+// The stretches of n whole budgets of server i from t on, one after the other, each written.
+fn pass_each(
     list: &mut [u64],
     interrupted: &mut [u64; sizes::MOST_SERVERS],
     c: Current,

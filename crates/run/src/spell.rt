@@ -1,14 +1,14 @@
 // One spell of the server that is picked: how many ticks of its job it runs at once, and for how many whole budgets it then goes on.
 ghost use mathlib.Core.Path.{_≡_};
 ghost use Prim.Native.Nat.{_+_, _*_, _≤_, _<_};
-ghost use lib.ListN.{getD};
+ghost use lib.ListN.{length, getD};
 ghost use Rattle.books.specs.Budgets.{Able, NoneAbove, currentOn, interruptedOn, traceOn};
 ghost use Rattle.books.specs.Planned.{Planned};
 ghost use Rattle.books.specs.Segmented.{withWaits};
 ghost use Rattle.books.specs.Turns.{currentThen, interruptedThen, traceThen};
 ghost use Rattle.books.specs.Went.{Went};
 ghost use Rattle.books.specs.Winners.{Winners};
-ghost use Rattle.sizes.specs.Sizes.{clockEnd, mostFrame};
+ghost use Rattle.sizes.specs.Sizes.{clockEnd, mostFrame, mostServers};
 use crate::budgets;
 use crate::serving;
 use crate::stretches;
@@ -64,6 +64,7 @@ pub(crate) fn go(
     requires { ⌜ c .count < clockEnd ⌝ }
     requires { ⌜ NoneAbove t (now interrupted) ⌝ }
     requires { ⌜ getD (now postponed) i 0 ≤ t ⌝ }
+    requires { ⌜ length (now interrupted) ≡ mostServers ⌝ }
     ensures { λ r. ⌜ Went t i s rest room c (now (keys .entry)) (now (list .entry)) (now (postponed .entry)) (now (interrupted .entry)) (now (keys .exit)) (now (list .exit)) (now (postponed .exit)) (now (interrupted .exit)) (r .current) (r .server) (r .ticks) ⌝ }
 {
     let p = plan(keys, i, s, rest, room);
@@ -121,6 +122,8 @@ fn pass_through(
     deadline: Moment,
     p: Spell,
 ) -> Current
+    requires { ⌜ i < 64 ⌝ }
+    requires { ⌜ length (now interrupted) ≡ mostServers ⌝ }
     requires { ⌜ Able (p .after) ⌝ }
     requires { ⌜ t + p .ticks + p .budgets * p .after .budget .ticks ≤ clockEnd ⌝ }
     requires { ⌜ p .budgets * p .after .budget .ticks ≤ p .after .waiting .ticks ⌝ }

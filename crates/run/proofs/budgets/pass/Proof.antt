@@ -1,185 +1,160 @@
--- `run::budgets::pass` meets its promise: after k turns all stands as after k budgets.
-use Prim.Native.Nat.{ℕ, suc, _+_, _-_, _*_, _≤_, _<_}
+-- `run::budgets::pass` meets its promise: where not every budget is written, the list is full before the first that is skipped.
+use Prim.Native.Nat.{ℕ, suc, _+_, _-_, _*_, _/_, _≤_, _<_}
 use borrow.Author.Needs.{needs}
-use lib.ListN.{length, getD}
+use lib.ListN.{length, getD, set}
 use mathlib.Core.List.{List}
-use mathlib.Core.Path.{_≡_, refl, _∙_, ap, ap₂}
-use native.Mathlib.Nat.{le-mul-of-pos-right, mul-le-mul-right, le-antisymm}
-use native.Mathlib.Numerals.{add-one}
+use mathlib.Core.Path.{_≡_, sym, _∙_, ap, ap₂}
+use native.Mathlib.Nat.{le-mul-of-pos-right, mul-le-mul-right}
 use native.Mathlib.Omega.{arith}
+use Rattle.books.specs.BudgetLaws.{on-count, on-above}
+use Rattle.books.specs.Budgets.{currentOn, traceOn, interruptedOn}
 use Rattle.books.specs.declared.Current.{Current}
-use Rattle.books.specs.BudgetLaws.{deadline-more, on-begun, on-count, on-above}
-use Rattle.books.specs.Budgets.{budgetsOn, currentOn, traceOn, interruptedOn, Able, NoneAbove}
-use Rattle.books.specs.Segmented.{withWaits}
-use Rattle.books.specs.Turns.{currentThen, traceThen, interruptedThen}
-use Rattle.clock.specs.Clock.{lastTick, moment, later, shown}
-use Rattle.clock.specs.declared.Moment.{Moment}
-use Rattle.server.specs.declared.Server.{Server}
+use Rattle.books.specs.Skips.{lastOf, counted-least, cut-length, skipped-current, skipped-list, skipped-cut}
 use Rattle.sizes.specs.Sizes.{clockEnd}
 use Rattle.run.proofs.budgets.pass.Statement.{statement}
 use Rattle.run.proofs.budgets.pass.Tie as tie
 
--- all after k of n budgets
-record Passed (list₀ interrupted₀ : List ℕ) (c : Current) (t i : ℕ) (s : Server) (n : ℕ) (list interrupted : List ℕ) (current : Current)
-    (at : ℕ) (deadline : Moment) (waiting k : ℕ) : Type 0 where
-  current-is : current ≡ currentOn c t i s k
-  list-is : list ≡ traceOn c t i s k list₀
-  interrupted-is : interrupted ≡ interruptedOn c t i s k interrupted₀
-  at-is : at ≡ t + k * s .budget .ticks
-  deadline-is : deadline ≡ budgetsOn s k .deadline
-  waiting-is : waiting ≡ s .waiting .ticks - k * s .budget .ticks
-  within : k ≤ n
-  places : length list ≡ length list₀
+until-full-requires : tie.Need-until-full-requires
+until-full-requires c κs = search needs
 
-module _ {list₀ interrupted₀ : List ℕ} {c : Current} {t i : ℕ} {s : Server} {n : ℕ} where
-  passed-none : Passed list₀ interrupted₀ c t i s n list₀ interrupted₀ c t (s .deadline) (s .waiting .ticks) 0
-  unfolding currentOn traceOn interruptedOn budgetsOn
-  passed-none =
-      record {
-        current-is = refl;
-        list-is = refl;
-        interrupted-is = refl;
-        at-is = omega arith;
-        deadline-is = ap moment (omega arith);
-        waiting-is = omega arith;
-        within = omega arith;
-        places = refl;
-      }
+lesser-requires : tie.Need-lesser-requires
+lesser-requires c κs = search needs
 
-  module _ {list interrupted : List ℕ} {current : Current} {at : ℕ} {deadline : Moment} {waiting k : ℕ} (able : Able s)
-      (time : t + n * s .budget .ticks ≤ clockEnd) (work : n * s .budget .ticks ≤ s .waiting .ticks)
-      (p : Passed list₀ interrupted₀ c t i s n list interrupted current at deadline waiting k) where
-    -- there are no more budgets than ticks in them
-    few : n ≤ clockEnd
-    few = omega (arith, le-mul-of-pos-right n (able .budget))
+pass-each-requires : tie.Need-pass-each-requires
+pass-each-requires c κs =
+    let a = c .before .before .before .before .before .args in
+    let pre = c .before .before .before .before .before .pre .1 .1 in
+    let within : c .before .before .lesser .result ≤ a .n = omega (arith, c .before .before .lesser .ensures) in
+    let less = mul-le-mul-right (a .s .budget .ticks) within in (
+      pre .0,
+      (omega (arith, less, pre .1 .0), (omega (arith, less, pre .1 .1 .0), pre .1 .1 .1)),
+    )
 
-    -- one budget more is within the work and the time
-    module _ (more : k < n) where
-      next-within : suc k * s .budget .ticks ≤ n * s .budget .ticks
-      next-within = mul-le-mul-right (s .budget .ticks) (omega arith)
+same-length : tie.Need-same-length
+same-length c = search needs
 
-      enough : s .budget .ticks ≤ waiting
-      enough = omega (arith, next-within, p .waiting-is)
-
-      in-time : at + s .budget .ticks ≤ clockEnd
-      in-time = omega (arith, next-within, p .at-is)
-
-      begun : c .start .tick ≤ t → current .start .tick ≤ at
-      begun by = omega (arith, ap (λ (x : Current). x .start .tick) (p .current-is), p .at-is, on-begun c t i s k by)
-
-      count-few : c .count ≤ clockEnd → current .count < lastTick
-      count-few by = omega (arith, few, ap (λ (x : Current). x .count) (p .current-is), on-count c t i s k)
-
-      cut-few : NoneAbove clockEnd interrupted₀ → (j : ℕ) → getD interrupted j 0 < lastTick
-      cut-few by j = omega (arith, few, ap (λ (l : List ℕ). getD l j 0) (p .interrupted-is), on-above c t i s k clockEnd interrupted₀ by j)
-
-      passed-more : {turned : Current} {list' interrupted' : List ℕ} {deadline' : Moment} → turned ≡ currentThen current at i deadline
-          → list' ≡ traceThen current at i deadline list → interrupted' ≡ interruptedThen current i deadline interrupted
-          → deadline' ≡ shown (later deadline (s .period)) → length list' ≡ length list
-          → Passed list₀ interrupted₀ c t i s n list' interrupted' (withWaits turned (waiting - s .budget .ticks)) (at + s .budget .ticks) deadline'
-          (waiting - s .budget .ticks)
-          (suc k)
-      unfolding currentOn traceOn interruptedOn budgetsOn
-      passed-more {turned} {list'} {interrupted'} {deadline'} turns writes cuts shows kept =
-          record {
-            current-is =
-                ap₂ withWaits
-                (turns
-                ∙ ap (λ (x : Current). currentThen x at i deadline) (p .current-is)
-                ∙ ap₂ (λ (u : ℕ) (d : Moment). currentThen (currentOn c t i s k) u i d) (p .at-is) (p .deadline-is))
-                left;
-            list-is =
-                writes
-                ∙ ap₂ (λ (x : Current) (l : List ℕ). traceThen x at i deadline l) (p .current-is) (p .list-is)
-                ∙ ap₂ (λ (u : ℕ) (d : Moment). traceThen (currentOn c t i s k) u i d (traceOn c t i s k list₀)) (p .at-is) (p .deadline-is);
-            interrupted-is =
-                cuts
-                ∙ ap₂ (λ (x : Current) (l : List ℕ). interruptedThen x i deadline l) (p .current-is) (p .interrupted-is)
-                ∙ ap (λ (d : Moment). interruptedThen (currentOn c t i s k) i d (interruptedOn c t i s k interrupted₀)) (p .deadline-is);
-            at-is = omega (arith, p .at-is);
-            deadline-is =
-                shows ∙ ap (λ (d : Moment). shown (later d (s .period))) (p .deadline-is) ∙ deadline-more s k able (omega (arith, few));
-            waiting-is = left;
-            within = omega arith;
-            places = kept ∙ p .places;
-          }
-        where
-          left : waiting - s .budget .ticks ≡ s .waiting .ticks - suc k * s .budget .ticks
-          left = omega (arith, p .waiting-is)
-
-abbrev Inv-loop : tie.InvT-loop
-Inv-loop list₀ interrupted₀ t i s n budget current₀ at₀ deadline₀ waiting₀ k₀ list interrupted current at deadline waiting k =
-    Passed list₀ interrupted₀ current₀ t i s n list interrupted current at deadline waiting k
-
-abbrev μ-loop : tie.MeasureT-loop
-μ-loop list₀ interrupted₀ t i s n budget current₀ at₀ deadline₀ waiting₀ k₀ list interrupted current at deadline waiting k = n - k
-
-loop-holds : tie.Need-loop-holds Inv-loop μ-loop
-loop-holds c = passed-none
-
-turn-to-requires : tie.Need-turn-to-requires Inv-loop μ-loop
-turn-to-requires c κs =
-    let start = c .before .before .before .before .before .before in
-    let pre = start .pre in
-    let loop = c .before .before .before .loop in
-    let more = c .before .before .loop-test .taken in (
-      begun (pre .0) (pre .1 .0) (pre .1 .1 .0) (loop .inv) more (pre .1 .1 .1 .0),
+returns : tie.Need-returns
+returns c =
+    let a = c .before .before .before .before .before .before .before .before .before .args in
+    let each = c .before .before .before .pass-each .ensures in (
+      each .0 ∙ ap (currentOn (a .c) (a .t) (a .i) (a .s)) (c .if1 .taken),
       (
-        count-few (pre .0) (pre .1 .0) (pre .1 .1 .0) (loop .inv) more (pre .1 .1 .1 .1 .0),
-        cut-few (pre .0) (pre .1 .0) (pre .1 .1 .0) (loop .inv) more (pre .1 .1 .1 .1 .1) (loop .current .server),
+        each .1 .0 ∙ ap (λ (k : ℕ). traceOn (a .c) (a .t) (a .i) (a .s) k (a .list .now)) (c .if1 .taken),
+        each .1 .1 ∙ ap (λ (k : ℕ). interruptedOn (a .c) (a .t) (a .i) (a .s) k (a .interrupted .now)) (c .if1 .taken),
       ),
     )
 
-sub-waiting : tie.Need-sub-waiting Inv-loop μ-loop
-sub-waiting c =
-    let pre = c .before .before .before .before .before .before .before .before .before .pre in
-    enough (pre .0) (pre .1 .0) (pre .1 .1 .0) (c .before .before .before .before .before .before .loop .inv)
-    (c .before .before .before .before .before .loop-test .taken)
+sub-skipped : tie.Need-sub-skipped
+sub-skipped c = search needs
 
-add-at : tie.Need-add-at Inv-loop μ-loop
-add-at c =
-    let pre = c .before .before .before .before .before .before .before .before .before .pre in
-    search (
-      needs,
-      in-time (pre .0) (pre .1 .0) (pre .1 .1 .0) (c .before .before .before .before .before .before .loop .inv)
-          (c .before .before .before .before .before .loop-test .taken),
+-- there are no more budgets than ticks in them
+few : (c : tie.Else1) → c .before .before .before .before .before .before .before .before .before .args .n ≤ clockEnd
+few c =
+    omega (
+      arith,
+      le-mul-of-pos-right (c .before .before .before .before .before .before .before .before .before .args .n) (c .before .before .before .before .before .before .before .before .before .pre .1 .1 .0 .budget),
+      c .before .before .before .before .before .before .before .before .before .pre .1 .1 .1 .0,
     )
 
-later-requires : tie.Need-later-requires Inv-loop μ-loop
-later-requires c κs = search needs
+-- some are skipped, and the list is full then
+some : (c : tie.Else1) → c .before .before .before .before .before .before .lesser .result < c .before .before .before .before .before .before .before .before .before .args .n
+some c = let other = c .if1 .left in omega (arith, c .before .before .before .before .before .before .lesser .ensures)
 
-add-k : tie.Need-add-k Inv-loop μ-loop
-add-k c = search needs
+shown : (c : tie.Else1) → 1 ≤ c .before .before .before .before .before .before .lesser .result
+shown c = omega (arith, c .before .before .before .before .before .before .lesser .ensures, c .before .before .before .before .before .before .before .until-full .ensures .0, some c)
 
-loop-less : tie.Need-loop-less Inv-loop μ-loop
-loop-less c = search needs
+mul-interrupted : tie.Need-mul-interrupted
+mul-interrupted c = search needs
 
-loop-again : tie.Need-loop-again Inv-loop μ-loop
-loop-again c =
-    let pre = c .before .before .before .before .before .before .before .before .before .before .pre in
-    let turned = c .before .before .before .turn-to in
-    rw add-one
-    (passed-more (pre .0) (pre .1 .0) (pre .1 .1 .0) (c .before .before .before .before .before .before .before .loop .inv)
-    (c .before .before .before .before .before .before .loop-test .taken)
-    (turned .ensures .0)
-    (turned .ensures .1 .0)
-    (turned .ensures .1 .1)
-    (c .later .ensures)
-    (search needs))
+element-copy-out-interrupted : tie.Need-element-copy-out-interrupted
+element-copy-out-interrupted c = search needs
 
-same-length : tie.Need-same-length Inv-loop μ-loop
-same-length c = c .before .loop .inv .places
+add-interrupted : tie.Need-add-interrupted
+add-interrupted c =
+    let a = c .before .before .before .before .before .before .before .before .before .before .args in
+    omega (
+      arith,
+      few (c .before),
+      some (c .before),
+      ap (λ (l : List ℕ). getD l (a .i) 0) (c .before .before .before .before .pass-each .ensures .1 .1),
+      on-above (a .c) (a .t) (a .i) (a .s) (c .before .before .before .before .before .before .before .lesser .result) clockEnd (a .interrupted .now) (c .before .before .before .before .before .before .before .before .before .before .pre .1 .1 .1 .1 .1 .1 .1) (a .i),
+    )
 
-returns : tie.Need-returns Inv-loop μ-loop
-returns c =
-    let start = c .before .before .before .before in
-    let a = start .args in
-    let p = c .before .loop .inv in
-    let all : c .before .loop .k ≡ a .n = le-antisymm (p .within) (c .loop-test .left) in (
-      p .current-is ∙ ap (currentOn (a .c) (a .t) (a .i) (a .s)) all,
+element-write-interrupted : tie.Need-element-write-interrupted
+element-write-interrupted c = search needs
+
+sub-last-of : tie.Need-sub-last-of
+sub-last-of c = search needs
+
+add-last-of : tie.Need-add-last-of
+add-last-of c =
+    let a = c .before .before .before .before .before .before .before .before .before .before .before .args in
+    omega (
+      arith,
+      few (c .before .before),
+      some (c .before .before),
+      ap (λ (x : Current). x .count) (c .before .before .before .before .before .pass-each .ensures .0),
+      on-count (a .c) (a .t) (a .i) (a .s) (c .before .before .before .before .before .before .before .before .lesser .result),
+      c .before .before .before .before .before .before .before .before .before .before .before .pre .1 .1 .1 .1 .1 .1 .0,
+    )
+
+last-of-requires : tie.Need-last-of-requires
+last-of-requires c κs =
+    let a = c .before .before .before .before .before .before .before .before .before .before .before .args in
+    let pre = c .before .before .before .before .before .before .before .before .before .before .before .pre .1 .1 in
+    let whole : suc (a .n - 1) ≡ a .n = omega (arith, some (c .before .before)) in
+    let all = ap (λ (k : ℕ). k * a .s .budget .ticks) whole in (
+      pre .0,
       (
-        p .list-is ∙ ap (λ (k : ℕ). traceOn (a .c) (a .t) (a .i) (a .s) k (a .list .now)) all,
-        p .interrupted-is ∙ ap (λ (k : ℕ). interruptedOn (a .c) (a .t) (a .i) (a .s) k (a .interrupted .now)) all,
+        omega (arith, all, pre .1 .0),
+        (omega (arith, few (c .before .before), some (c .before .before)), omega (arith, all, pre .1 .1 .0)),
+      ),
+    )
+
+same-length-2 : tie.Need-same-length-2
+same-length-2 c = search needs
+
+returns-2 : tie.Need-returns-2
+returns-2 c =
+    let start = c .before .before .before .before .before .before .before .before .before .before .before .before in
+    let a = start .args in
+    let at = c .before .before .before in
+    let m = c .before .before .before .before .before .before .before .before .before .lesser .result in
+    let able = start .pre .1 .1 .0 in
+    let each = c .before .before .before .before .before .before .pass-each .ensures in
+    let period : 1 ≤ a .s .period .ticks = omega (arith, able .budget, able .fits) in
+    let whole : suc (a .n - 1) ≡ a .n = omega (arith, some at) in
+    let full : length (traceOn (a .c) (a .t) (a .i) (a .s) m (a .list .now)) / 4 ≤ currentOn (a .c) (a .t) (a .i) (a .s) m .count
+    = omega (
+      arith,
+      counted-least (a .c) (a .t) (a .i) (a .s) (start .pre .0) period m (shown at),
+      c .before .before .before .before .before .before .before .before .before .before .until-full .ensures .1,
+      c .before .before .before .before .before .before .before .before .before .lesser .ensures,
+      some at,
+      ap (λ (l : List ℕ). length l / 4) (each .1 .0),
+      ap (λ (n : ℕ). n / 4) (c .before .before .before .before .before .list .given),
+    ) in (
+      c .last-of .ensures
+          ∙ ap (lastOf (a .t) (a .i) (a .s) (a .n - 1))
+          (ap₂ _+_ (ap (λ (x : Current). x .count) (each .0)) (omega (arith, some at)))
+          ∙ sym (skipped-current (a .c) (a .t) (a .i) (a .s) (start .pre .0) period m (shown at) (a .n - 1) (omega (arith, some at)))
+          ∙ ap (currentOn (a .c) (a .t) (a .i) (a .s)) whole,
+      (
+        each .1 .0
+            ∙ sym (skipped-list (a .c) (a .t) (a .i) (a .s) (start .pre .0) period m (shown at) (a .list .now) full (a .n) (omega (arith, some at))),
+        ap (λ (l : List ℕ). set l (a .i) (getD l (a .i) 0 + (a .n - m))) (each .1 .1)
+            ∙ sym
+            (skipped-cut (a .c) (a .t) (a .i) (a .s) (start .pre .0) period m (shown at) (a .interrupted .now)
+            (omega (
+              arith,
+              cut-length (a .c) (a .t) (a .i) (a .s) (start .pre .0) period (a .interrupted .now) m,
+              start .pre .0,
+              start .pre .1 .0,
+            ))
+            (a .n)
+            (omega (arith, some at))
+            (able .budget)
+            (start .pre .1 .1 .1 .1 .0)),
       ),
     )
 
@@ -187,15 +162,18 @@ pub pass-spec : {M : Type 1} → statement M
 pass-spec =
     tie.close
     (tie.spec
-    Inv-loop
-    μ-loop
-    loop-holds
-    turn-to-requires
-    sub-waiting
-    add-at
-    later-requires
-    add-k
-    loop-less
-    loop-again
+    until-full-requires
+    lesser-requires
+    pass-each-requires
     same-length
-    returns)
+    returns
+    sub-skipped
+    mul-interrupted
+    element-copy-out-interrupted
+    add-interrupted
+    element-write-interrupted
+    sub-last-of
+    add-last-of
+    last-of-requires
+    same-length-2
+    returns-2)

@@ -29,14 +29,20 @@ pass-through-requires : tie.Need-pass-through-requires
 pass-through-requires c κs =
     let timing = c .before .before .before .before .before .pre .1 .1 .1 .1 .1 .1 .1 in
     let planned = c .before .before .plan .ensures in (
-      planned .able,
+      c .before .before .before .before .before .pre .0,
       (
-        omega (arith, planned .gone-after, planned .gone-room, timing .1 .0),
+        timing .1 .1 .1 .1 .1 .1,
         (
-          planned .works,
+          planned .able,
           (
-            timing .1 .1 .0,
-            (timing .1 .1 .1 .0, (timing .1 .1 .1 .1 .0, omega (arith, timing .0, timing .1 .0))),
+            omega (arith, planned .gone-after, planned .gone-room, timing .1 .0),
+            (
+              planned .works,
+              (
+                timing .1 .1 .0,
+                (timing .1 .1 .1 .0, (timing .1 .1 .1 .1 .0, omega (arith, timing .0, timing .1 .0))),
+              ),
+            ),
           ),
         ),
       ),
@@ -55,7 +61,7 @@ add-postponed : tie.Need-add-postponed
 add-postponed c =
     let pre = c .before .before .before .before .before .before .before .before .before .before .before .before .pre in
     let timing = pre .1 .1 .1 .1 .1 .1 .1 in
-    omega (arith, planned-few (c .before .before .before .before .before .before .before .before .before .plan .ensures) (pre .1 .1 .0 .budget), timing .1 .0, timing .1 .1 .1 .1 .1)
+    omega (arith, planned-few (c .before .before .before .before .before .before .before .before .before .plan .ensures) (pre .1 .1 .0 .budget), timing .1 .0, timing .1 .1 .1 .1 .1 .0)
 
 element-write-postponed : tie.Need-element-write-postponed
 element-write-postponed c = search needs

@@ -347,7 +347,7 @@ go-requires c κs =
                         started (fit (start o)) v,
                         (
                           omega (arith, counted (fit (start o)) v, before-horizon (settled o)),
-                          (cut-few (fit (start o)) v, postponed-few (fit (start o)) v _ (here o)),
+                          (cut-few (fit (start o)) v, (postponed-few (fit (start o)) v _ (here o), v .segmented .places)),
                         ),
                       ),
                     ),
