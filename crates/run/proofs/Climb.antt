@@ -1,10 +1,10 @@
 -- The way up from a key that was stored: at each turn only the place above the one reached may not hold its lesser.
-use Prim.Native.Nat.{ℕ, _+_, _*_, _/_, _≤_, _<_, min}
+use Prim.Native.Nat.{ℕ, zero, suc, _+_, _-_, _*_, _/_, _≤_, _<_, min}
 use lib.ListN.{length, getD, set, length-set}
 use lib.Seq.{getD-set-same, getD-set-other}
 use mathlib.Core.List.{List}
 use mathlib.Core.Logic.{_≢_}
-use mathlib.Core.Path.{_≡_, refl, _∙_}
+use mathlib.Core.Path.{_≡_, refl, _∙_, subst⁻¹}
 use native.Mathlib.Decide.{ℕ-discrete}
 use native.Mathlib.Omega.{arith}
 use Rattle.books.specs.Winners.{keyAt, Lesser, Winners, Set, Beside, beside-cases}
@@ -84,14 +84,6 @@ module _ {stored tree : List ℕ} {at least : ℕ} (c : Climb stored tree at lea
         refl
         (omega arith))
 
-    -- where it holds that already, all is done
-    pub climb-settles : getD tree (at / 2) 0 ≡ v → Winners tree
-    climb-settles e = record { places = c .places; lesser = λ p h b. go p h b (ℕ-discrete p (at / 2)) }
-      where
-        go : (p : ℕ) → 1 ≤ p → p < 64 → Dec (p ≡ at / 2) → Lesser tree p
-        go p h b (yes q) = rw q (e ∙ above)
-        go p h b (no q) = c .lesser p h b q
-
     -- where it is stored there, the climb has come to the place above
     pub climb-goes-on : 1 < at → Climb stored (set tree (at / 2) v) (at / 2) v
     climb-goes-on more =
@@ -108,3 +100,24 @@ module _ {stored tree : List ℕ} {at least : ℕ} (c : Climb stored tree at lea
         go : (p : ℕ) → 1 ≤ p → p < 64 → p ≢ at / 2 / 2 → Dec (p ≡ at / 2) → Lesser (set tree (at / 2) v) p
         go p h b other (yes q) = rw q (lesser-here tree (at / 2) v (omega arith) (omega (arith, c .places, c .below)) above)
         go p h b other (no q) = lesser-elsewhere tree (at / 2) v p q other (c .lesser p h b q)
+
+-- The root, which is place 1, is so many places up from a place.
+unfoldable pub Below : ℕ → ℕ → Type 0
+Below at zero = at ≡ 1
+Below at (suc n) = (1 < at) × Below (at / 2) n
+
+pub leaf-below : (i : ℕ) → i < 64 → Below (64 + i) 6
+unfolding Below
+leaf-below i l = (omega arith, (omega arith, (omega arith, (omega arith, (omega arith, (omega arith, omega arith))))))
+
+-- at the root none is left, and anywhere else there is a place above
+pub root-reached : (at above : ℕ) → Below at above → above ≡ 0 → at ≤ 1
+unfolding Below
+root-reached at zero b e = omega (arith, b)
+root-reached at (suc n) b e = let no : ⊥ = omega arith in absurd no
+
+pub one-up : (at above : ℕ) → Below at above → 0 < above → (1 < at) × Below (at / 2) (above - 1)
+unfolding Below
+one-up at zero b l = let no : ⊥ = omega arith in absurd no
+one-up at (suc n) b l =
+    let less : suc n - 1 ≡ n = omega arith in (b .0, subst⁻¹ (Below (at / 2)) less (b .1))

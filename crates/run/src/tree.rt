@@ -5,7 +5,7 @@ ghost use mathlib.Core.Path.{_≡_};
 ghost use Rattle.books.specs.Winners.{Winners, Beside, Set, Rival};
 use crate::serving::lesser;
 
-// Sets the key of server i. Where a place above it already holds its lesser, nothing further up changes.
+// Sets the key of server i, and what stands above it up to the root. Mostly it was the least of all, so that all of that changes.
 pub(crate) fn set_key(tree: &mut [u64; 128], i: usize, key: u64)
     requires { ⌜ i < 64 ⌝ }
     requires { ⌜ Winners (now tree) ⌝ }
@@ -14,14 +14,14 @@ pub(crate) fn set_key(tree: &mut [u64; 128], i: usize, key: u64)
     let mut at = 64 + i;
     let mut least = key;
     tree[at] = key;
-    while at > 1 {
+    // The root is six places up. A loop of so many turns is compiled as six turns in a row, one until `at` is 1 is not.
+    let mut above: usize = 6;
+    while above > 0 {
         let up = at / 2;
         least = lesser(least, tree[sibling(at)]);
-        if tree[up] == least {
-            return;
-        }
         tree[up] = least;
         at = up;
+        above -= 1;
     }
 }
 
