@@ -4,18 +4,17 @@ use borrow.Author.Tests.{eq-eqb, ne-eqb}
 use lib.Dec.{eqb}
 use lib.ListN.{length, getD, replicate, set, length-append}
 use mathlib.Core.Bool.{Bool, true, false, cond}
-use mathlib.Core.List.{List, [], _∷_, _++_}
+use mathlib.Core.List.{List, [], _∷_}
 use mathlib.Core.Path.{_≡_, refl, sym, _∙_, ap, ap₂}
 use native.Mathlib.Nat.{le-of-suc-le-suc, not-suc-le-zero}
 use native.Mathlib.Omega.{arith}
 use Rattle.arrival.specs.declared.Arrival.{Arrival}
 use Rattle.clock.specs.declared.Moment.{Moment}
 use Rattle.clock.specs.Clock.{lastTick, moment, until}
-use Rattle.counting.specs.Count.{count, count-empty, count-hit, count-miss, count-le}
+use Rattle.counting.specs.Count.{count, count-hit, count-miss, count-le}
 use Rattle.counting.specs.Places.{places, getD-places, places-same, places-replicate, set-places}
 use Rattle.counting.specs.Totals.{longest}
-use Rattle.finish.specs.Finish.{Finish, isOpen, at, finishOf}
-use Rattle.finish.specs.ListLaws.{finish-of-open, finish-of-at}
+use Rattle.finish.specs.Finish.{Finish, isOpen, at}
 use Rattle.sizes.specs.Sizes.{mostServers, openJob}
 use Rattle.summary.specs.declared.Response.{Response}
 use Rattle.summary.specs.declared.Summary.{Summary}
@@ -36,49 +35,24 @@ still-narrow [] h j = omega arith
 still-narrow (x ∷ l) h zero = h 0
 still-narrow (x ∷ l) h (suc j) = still-narrow l (λ i. h (suc i)) j
 
--- one job more: how many have finished with it, and the response, to which an open job adds nothing
-unfoldable pub finishedBy : Finish → ℕ
-finishedBy isOpen = 0
-finishedBy (at t) = 1
-
-unfoldable pub withFinish : Response → Moment → Finish → Response
-withFinish before came isOpen = before
-withFinish before came (at t) = withJob before (until came (moment t) .ticks)
-
-pub finished-few : (x : Finish) → finishedBy x ≤ 1
-unfolding finishedBy
-finished-few isOpen = omega arith
-finished-few (at t) = omega arith
-
--- a record with one job more
-abbrev pub withOne : Summary → Moment → Finish → Summary
-withOne s came x =
+-- a record with one job more: an open one has arrived, and any other has finished too
+unfoldable pub withOne : Summary → Moment → Finish → Summary
+withOne s came isOpen =
     record {
       arrived = s .arrived + 1;
-      finished = s .finished + finishedBy x;
+      finished = s .finished;
       postponed = s .postponed;
       interrupted = s .interrupted;
-      response = withFinish (s .response) came x;
+      response = s .response;
     }
-
--- by what the finish list has for the job
-module _ (n : ℕ) where
-  pub finished-open : n ≡ openJob → 0 ≡ finishedBy (finishOf n)
-  unfolding finishedBy
-  finished-open e = rw (finish-of-open n e)
-
-  pub finished-at : (n ≡ openJob → ⊥) → 1 ≡ finishedBy (finishOf n)
-  unfolding finishedBy
-  finished-at e = rw (finish-of-at n e)
-
-  pub with-open : (before : Response) (came : Moment) → n ≡ openJob → before ≡ withFinish before came (finishOf n)
-  unfolding withFinish
-  with-open before came e = rw (finish-of-open n e)
-
-  pub with-at : (before : Response) (came : Moment) → (n ≡ openJob → ⊥)
-      → withJob before (until came (moment n) .ticks) ≡ withFinish before came (finishOf n)
-  unfolding withFinish
-  with-at before came e = rw (finish-of-at n e)
+withOne s came (at t) =
+    record {
+      arrived = s .arrived + 1;
+      finished = s .finished + 1;
+      postponed = s .postponed;
+      interrupted = s .interrupted;
+      response = withJob (s .response) (until came (moment t) .ticks);
+    }
 
 -- a record whose numbers 64 bits still hold with one job more, of at most r ticks
 pub record Roomy (s : Summary) (r : ℕ) : Type 0 where
@@ -124,7 +98,7 @@ module _ (w : Work) (list : List ℕ) where
     -- and of its own that it has arrived, and finished where the list says so
     own-grows : withOne (recordUpTo k (w .arrival k .server)) (w .arrival k .moment) (finishIn list k)
         ≡ recordUpTo (suc k) (w .arrival k .server)
-    unfolding recordUpTo finishedBy withFinish
+    unfolding recordUpTo withOne
     own-grows = go (finishIn list k) refl
       where
         i : ℕ
@@ -137,8 +111,7 @@ module _ (w : Work) (list : List ℕ) where
         hit = sym (count-hit k (isJob w i) (eq-eqb i i refl))
 
         go : (x : Finish) → finishIn list k ≡ x → withOne (recordUpTo k i) (w .arrival k .moment) x ≡ recordUpTo (suc k) i
-        go isOpen e =
-            ap₂ (counted (count k (isJob w i) + 1)) (omega arith) refl ∙ ap₂ overJobs hit (sym (responses-open w (finishIn list) i k refl e))
+        go isOpen e = ap₂ overJobs hit (sym (responses-open w (finishIn list) i k refl e))
         go (at t) e =
             let lasted = until (w .arrival k .moment) (moment t) .ticks in
             ap₂ (counted (count k (isJob w i) + 1)) (sym (length-append before (lasted ∷ []))) (sym (response-more before lasted))

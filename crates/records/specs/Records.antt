@@ -33,20 +33,16 @@ recordOf w list i =
 unfoldable pub recordsOf : Work → List ℕ → List Summary
 recordsOf w list = places mostServers (recordOf w list)
 
--- a record with other counts of postponements and interruptions
-abbrev pub withCounts : Summary → ℕ → ℕ → Summary
-withCounts s postponed interrupted =
+-- a record of server i with the two counts that are kept for it
+unfoldable pub filledAt : List ℕ → List ℕ → Summary → ℕ → Summary
+filledAt postponed interrupted s i =
     record {
       arrived = s .arrived;
       finished = s .finished;
-      postponed = postponed;
-      interrupted = interrupted;
+      postponed = getD postponed i 0;
+      interrupted = getD interrupted i 0;
       response = s .response;
     }
-
--- that of server i with the counts that are kept for it
-unfoldable pub filledAt : List ℕ → List ℕ → Summary → ℕ → Summary
-filledAt postponed interrupted s i = withCounts s (getD postponed i 0) (getD interrupted i 0)
 
 -- those of the first n servers so, and the others as they are
 unfoldable pub filled : ℕ → List ℕ → List ℕ → List Summary → List Summary

@@ -9,7 +9,6 @@ use Rattle.finish.specs.ListLaws.{list-shows-or, finish-told}
 use Rattle.moments.specs.Moments.{history}
 use Rattle.sizes.specs.Sizes.{mostServers, openJob}
 use Rattle.summary.specs.declared.Response.{Response}
-use Rattle.summary.specs.declared.Summary.{Summary}
 use Rattle.summary.specs.Summary.{blank, arrivedOf, finishedOf, responses, finishes}
 use Rattle.summary.specs.SummaryLaws.{finished-same, responses-same}
 use Rattle.workfile.specs.Work.{Work}

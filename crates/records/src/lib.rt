@@ -1,7 +1,8 @@
-// The 64 records of a run, told from its work file and its finish list when the run is over, and the counts put in that were kept beside.
+// The 64 records of a run, told from its work file and its finish list when the run is over: an array that is handed on in the run's own
+// loop would take longer than the rest of it. What no finish list tells is counted beside, and put in.
 ghost use mathlib.Core.Path.{_≡_};
 ghost use Prim.Native.Nat.{_+_, _≤_, _<_, max, min};
-ghost use lib.ListN.{getD, set};
+ghost use lib.ListN.{getD};
 ghost use Rattle.clock.specs.Clock.{lastTick};
 ghost use Rattle.finish.specs.Finish.{finishOf};
 ghost use Rattle.sizes.specs.Sizes.{mostServers, openJob};
@@ -9,15 +10,14 @@ ghost use Rattle.summary.specs.Summary.{blank};
 ghost use Rattle.summary.specs.SummaryLaws.{totalOf, withJob};
 ghost use Rattle.workfile.specs.Layout.{header};
 ghost use Rattle.workfile.specs.Work.{work};
-ghost use Rattle.records.specs.GrowthLaws.{Roomy, finishedBy, recordsUpTo, withFinish, withOne};
-ghost use Rattle.records.specs.Records.{filled, filledAt, recordsOf};
-use arrival::Arrival;
+ghost use Rattle.records.specs.GrowthLaws.{Roomy, recordsUpTo, withOne};
+ghost use Rattle.records.specs.Records.{filled, recordsOf};
 use clock::Length;
 use clock::Moment;
 use summary::Response;
 use summary::Summary;
 
-// The records that a file and a finish list tell, job by job in file order.
+// The records that a file and a finish list tell, job by job in file order. No count of postponements or interruptions is in them.
 pub fn of_jobs(file: &[u8], finishes: &[u32]) -> [Summary; sizes::MOST_SERVERS]
     ensures { λ r. ⌜ r ≡ recordsOf (work (now (file .entry))) (now (finishes .entry)) ⌝ }
 {
@@ -26,7 +26,7 @@ pub fn of_jobs(file: &[u8], finishes: &[u32]) -> [Summary; sizes::MOST_SERVERS]
     of_arrivals(file, from, h.arrivals.count, finishes)
 }
 
-// Those that the first m arrivals tell, which start at byte `from`.
+// Those that m arrivals tell, the first of which starts at byte `from`. One of a server that has no record changes none.
 fn of_arrivals(
     file: &[u8],
     from: usize,
@@ -41,8 +41,10 @@ fn of_arrivals(
     let mut k = 0;
     while k < m {
         let a = reader::arrival_from(file, from, sizes::ARRIVAL_BYTES * k);
-        if a.server < sizes::MOST_SERVERS {
-            let more = with_arrival(records, a, finish_in(finishes, k));
+        let i = a.server;
+        if i < sizes::MOST_SERVERS {
+            let s = one_more(records, i, a.moment, finish_in(finishes, k));
+            let more = summary::with_record(records, i, s);
             records = more;
         }
         k += 1;
@@ -60,71 +62,44 @@ fn finish_in(finishes: &[u32], k: usize) -> u32
     sizes::OPEN_JOB
 }
 
-// The records with one arrival more, for which the finish list has `finish`.
-fn with_arrival(
-    records: [Summary; sizes::MOST_SERVERS],
-    a: Arrival,
-    finish: u32,
-) -> [Summary; sizes::MOST_SERVERS]
-    requires { ⌜ a .server < mostServers ⌝ }
-    requires { ⌜ Roomy (getD records (a .server) blank) finish ⌝ }
-    ensures { λ r. ⌜ r ≡ set records (a .server) (withOne (getD records (a .server) blank) (a .moment) (finishOf finish)) ⌝ }
-{
-    let i = a.server;
-    summary::with_record(
-        records,
-        i,
-        with_one(record_at(records, i), a.moment, finish),
-    )
-}
-
-fn record_at(records: [Summary; sizes::MOST_SERVERS], i: usize) -> Summary
+// The record of server i with one job more, for which the list has `finish`.
+fn one_more(records: [Summary; sizes::MOST_SERVERS], i: usize, came: Moment, finish: u32) -> Summary
     requires { ⌜ i < mostServers ⌝ }
-    ensures { λ r. ⌜ r ≡ getD records i blank ⌝ }
+    requires { ⌜ Roomy (getD records i blank) finish ⌝ }
+    ensures { λ r. ⌜ r ≡ withOne (getD records i blank) came (finishOf finish) ⌝ }
 {
-    records[i]
+    with_job(records[i], came, finish)
 }
 
-// A record with one job more.
-fn with_one(s: Summary, came: Moment, finish: u32) -> Summary
+// A record with one job more, for which the list has `finish`: an open one has arrived, and any other has finished too.
+fn with_job(s: Summary, came: Moment, finish: u32) -> Summary
     requires { ⌜ Roomy s finish ⌝ }
     ensures { λ r. ⌜ r ≡ withOne s came (finishOf finish) ⌝ }
 {
+    let arrived = s.arrived + 1;
     let before = s.response;
-    let response = with_finish(before, came, finish);
+    if finish == sizes::OPEN_JOB {
+        return Summary {
+            arrived,
+            finished: s.finished,
+            postponed: s.postponed,
+            interrupted: s.interrupted,
+            response: before,
+        };
+    }
+    let finished = s.finished + 1;
+    let end = finish as u64;
     Summary {
-        arrived: s.arrived + 1,
-        finished: s.finished + finished_by(finish),
+        arrived,
+        finished,
         postponed: s.postponed,
         interrupted: s.interrupted,
-        response,
+        response: with_response(before, clock::until(came, Moment { tick: end })),
     }
-}
-
-// How many jobs have finished, of one.
-fn finished_by(finish: u32) -> u64
-    ensures { λ r. ⌜ r ≡ finishedBy (finishOf finish) ⌝ }
-{
-    if finish == sizes::OPEN_JOB {
-        return 0;
-    }
-    1
-}
-
-// The response with what the finish of one job more tells: an open job has none.
-fn with_finish(before: Response, came: Moment, finish: u32) -> Response
-    requires { ⌜ totalOf before + finish ≤ lastTick ⌝ }
-    ensures { λ r. ⌜ r ≡ withFinish before came (finishOf finish) ⌝ }
-{
-    if finish == sizes::OPEN_JOB {
-        return before;
-    }
-    let end = finish as u64;
-    with_job(before, clock::until(came, Moment { tick: end }))
 }
 
 // The response over one job more.
-fn with_job(before: Response, lasted: Length) -> Response
+fn with_response(before: Response, lasted: Length) -> Response
     requires { ⌜ totalOf before + lasted .ticks ≤ lastTick ⌝ }
     ensures { λ r. ⌜ r ≡ withJob before (lasted .ticks) ⌝ }
 {
@@ -151,7 +126,7 @@ fn longer(a: Length, b: Length) -> Length
     a
 }
 
-// The records with the counts that were kept beside them put into those of the first n servers.
+// The records, those of the first n servers with the counts that were kept beside them.
 pub fn fill(
     records: [Summary; sizes::MOST_SERVERS],
     n: usize,
@@ -160,12 +135,12 @@ pub fn fill(
 ) -> [Summary; sizes::MOST_SERVERS]
     ensures { λ r. ⌜ r ≡ filled n (now (postponed .entry)) (now (interrupted .entry)) records ⌝ }
 {
-    let last = least(n, sizes::MOST_SERVERS);
+    let servers = least(n, sizes::MOST_SERVERS);
     let mut all = records;
     let mut i = 0;
-    while i < last {
-        all[i].postponed = postponed[i];
-        all[i].interrupted = interrupted[i];
+    while i < servers {
+        all[i].postponed = count_at(postponed, i);
+        all[i].interrupted = count_at(interrupted, i);
         i += 1;
     }
     all
@@ -178,4 +153,11 @@ fn least(a: usize, b: usize) -> usize
         return a;
     }
     b
+}
+
+fn count_at(counts: &[u64; sizes::MOST_SERVERS], i: usize) -> u64
+    requires { ⌜ i < mostServers ⌝ }
+    ensures { λ r. ⌜ r ≡ getD (now (counts .entry)) i 0 ⌝ }
+{
+    counts[i]
 }

@@ -12,10 +12,10 @@ use Rattle.records.proofs.fill.Statement.{statement}
 use Rattle.records.proofs.fill.Tie as tie
 
 abbrev Inv-loop : tie.InvT-loop
-Inv-loop n postponed interrupted last all₀ i₀ all i = (i ≤ last) × (all ≡ filled i postponed interrupted all₀)
+Inv-loop n postponed interrupted servers all₀ i₀ all i = (i ≤ servers) × (all ≡ filled i postponed interrupted all₀)
 
 abbrev μ-loop : tie.MeasureT-loop
-μ-loop n postponed interrupted last all₀ i₀ all i = last - i
+μ-loop n postponed interrupted servers all₀ i₀ all i = servers - i
 
 least-requires : tie.Need-least-requires Inv-loop μ-loop
 least-requires c κs = search needs
@@ -24,41 +24,37 @@ loop-holds : tie.Need-loop-holds Inv-loop μ-loop
 loop-holds c =
     let whole : length (c .before .args .records) ≡ 64 = search needs in (zero-le, sym (filled-none _ _ _ whole))
 
+count-at-requires : tie.Need-count-at-requires Inv-loop μ-loop
+count-at-requires c κs = omega arith
+
 mul-all : tie.Need-mul-all Inv-loop μ-loop
-mul-all c = search needs
-
-element-copy-out-all : tie.Need-element-copy-out-all Inv-loop μ-loop
-element-copy-out-all c = search needs
-
-mul-all-2 : tie.Need-mul-all-2 Inv-loop μ-loop
-mul-all-2 c = search needs
+mul-all c = omega arith
 
 way-write-given-all : tie.Need-way-write-given-all Inv-loop μ-loop
-way-write-given-all c = search needs
+way-write-given-all c = omega arith
 
-mul-all-3 : tie.Need-mul-all-3 Inv-loop μ-loop
-mul-all-3 c = search needs
+count-at-requires-2 : tie.Need-count-at-requires-2 Inv-loop μ-loop
+count-at-requires-2 c κs = omega arith
 
-element-copy-out-all-2 : tie.Need-element-copy-out-all-2 Inv-loop μ-loop
-element-copy-out-all-2 c = search needs
-
-mul-all-4 : tie.Need-mul-all-4 Inv-loop μ-loop
-mul-all-4 c = search needs
+mul-all-2 : tie.Need-mul-all-2 Inv-loop μ-loop
+mul-all-2 c = omega arith
 
 way-write-given-all-2 : tie.Need-way-write-given-all-2 Inv-loop μ-loop
-way-write-given-all-2 c = search needs
+way-write-given-all-2 c = omega arith
 
 add-i : tie.Need-add-i Inv-loop μ-loop
-add-i c = search needs
+add-i c = omega arith
 
 loop-less : tie.Need-loop-less Inv-loop μ-loop
-loop-less c = search needs
+loop-less c = omega arith
 
 loop-again : tie.Need-loop-again Inv-loop μ-loop
 loop-again c =
-    let turn = c .before .before .before .before .before in
-    let below = c .before .before .before .before .loop-test .taken in
-    (omega (arith, below), rw add-one (filled-more _ _ _ (turn .loop .i) (omega (arith, below, turn .before .least .ensures)) (turn .loop .inv .1)))
+    let turn = c .before .before .before .before .before in (
+      omega arith,
+      rw (add-one, c .before .before .before .count-at .ensures, c .before .count-at2 .ensures)
+          (filled-more _ _ _ (turn .loop .i) (omega arith) (turn .loop .inv .1)),
+    )
 
 returns : tie.Need-returns Inv-loop μ-loop
 returns c =
@@ -76,13 +72,11 @@ fill-spec =
     μ-loop
     least-requires
     loop-holds
+    count-at-requires
     mul-all
-    element-copy-out-all
-    mul-all-2
     way-write-given-all
-    mul-all-3
-    element-copy-out-all-2
-    mul-all-4
+    count-at-requires-2
+    mul-all-2
     way-write-given-all-2
     add-i
     loop-less

@@ -2,7 +2,6 @@
 use Prim.Native.Nat.{ℕ, _+_, _*_, _-_, _≤_}
 use borrow.Author.Needs.{needs}
 use denote.Ref.{now}
-use lib.ListN.{getD}
 use mathlib.Core.List.{List}
 use mathlib.Core.Logic.{⊎-elim}
 use mathlib.Core.Path.{_≡_, _∙_, ap}
@@ -44,9 +43,9 @@ arrival-from-requires c κs = search needs
 finish-in-requires : tie.Need-finish-in-requires Inv-loop μ-loop
 finish-in-requires c κs = search needs
 
-with-arrival-requires : tie.Need-with-arrival-requires Inv-loop μ-loop
-with-arrival-requires c κs =
-    let turn = c .before .before .before .before .before in
+one-more-requires : tie.Need-one-more-requires Inv-loop μ-loop
+one-more-requires c κs =
+    let turn = c .before .before .before .before in
     let start = turn .before .before .before .before in (
       c .before .if1 .taken,
       rw (turn .loop .inv .1, c .finish-in .ensures)
@@ -54,6 +53,9 @@ with-arrival-requires c κs =
           (omega (arith, start .pre .1, turn .loop .inv .0))
           (c .before .if1 .taken)),
     )
+
+with-record-requires : tie.Need-with-record-requires Inv-loop μ-loop
+with-record-requires c κs = search needs
 
 add-k : tie.Need-add-k Inv-loop μ-loop
 add-k c = omega arith
@@ -63,13 +65,15 @@ loop-less c = omega arith
 
 loop-again : tie.Need-loop-again Inv-loop μ-loop
 loop-again c =
-    let turn = c .before .before .before .before in
+    let turn = c .before .before .before in
     let start = turn .before .before .before .before in
-    let a-is = read (now (start .args .file)) (start .args .from) (turn .loop .k) (start .pre .0) (c .before .before .arrival-from .ensures) in (
+    let a-is = read (now (start .args .file)) (start .args .from) (turn .loop .k) (start .pre .0) (c .before .arrival-from .ensures) in (
       omega arith,
       rw add-one
           (⊎-elim
-          (λ w. w .3 ∙ w .2 .ensures ∙ rw (w .1 .ensures) (records-more _ _ (turn .loop .k) (turn .loop .inv .1) a-is (w .0 .taken)))
+          (λ w. w .4
+          ∙ w .3 .ensures
+          ∙ rw (w .2 .ensures, w .1 .ensures) (records-more _ _ (turn .loop .k) (turn .loop .inv .1) a-is (w .0 .taken)))
           (λ w. w .1 ∙ records-stay _ _ (turn .loop .k) (turn .loop .inv .1) a-is (w .0 .left))
           (c .if1 .came)),
     )
@@ -92,7 +96,8 @@ of-arrivals-spec =
     mul-arrival-from
     arrival-from-requires
     finish-in-requires
-    with-arrival-requires
+    one-more-requires
+    with-record-requires
     add-k
     loop-less
     loop-again

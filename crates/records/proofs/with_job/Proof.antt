@@ -1,39 +1,32 @@
--- `records::with_job` meets its promise: its two cases are those of the definition.
-use Prim.Native.Nat.{ℕ, _+_}
+-- `records::with_job` meets its promise: a job that is open in the list has arrived, and any other has finished at the number there.
 use borrow.Author.Needs.{needs}
-use mathlib.Core.Path.{sym, _∙_, ap}
 use native.Mathlib.Omega.{arith}
-use Rattle.clock.specs.Clock.{ticks}
-use Rattle.summary.specs.declared.Response.the-variants.{Over}
-use Rattle.summary.specs.SummaryLaws.{totalOf, total-over, with-job-first, with-job-more}
+use Rattle.finish.specs.ListLaws.{finish-of-open, finish-of-at}
+use Rattle.records.specs.GrowthLaws.{withOne}
 use Rattle.records.proofs.with_job.Statement.{statement}
 use Rattle.records.proofs.with_job.Tie as tie
 
-enum-known-before : tie.Need-enum-known-before
-enum-known-before c = search needs
-
-enum-told : tie.Need-enum-told
-enum-told c = search needs
+add-arrived : tie.Need-add-arrived
+add-arrived c = search needs
 
 returns : tie.Need-returns
-returns c = rw (c .enum-told .given .1) (sym (with-job-first _))
+unfolding withOne
+returns c = rw (finish-of-open _ (c .if1 .taken))
 
-add-t5 : tie.Need-add-t5
-add-t5 c =
-    let before = ap totalOf (c .before .before .before .before2 .given .1) ∙ total-over _ _ in
-    omega (arith, before, c .before .before .before .before .before .pre)
+add-finished : tie.Need-add-finished
+add-finished c = search needs
 
-longer-requires : tie.Need-longer-requires
-longer-requires c κs = search needs
+until-requires : tie.Need-until-requires
+until-requires c κs = search needs
+
+with-response-requires : tie.Need-with-response-requires
+with-response-requires c κs = rw (c .until .ensures) (omega (arith, c .before .before .before .before .pre .total))
 
 returns-2 : tie.Need-returns-2
+unfolding withOne
 returns-2 c =
-    let parts = c .before .before .before .before .before2 .given .0 in
-    let lasted = c .before .before .before .before .before .before .args .lasted in
-    rw (c .before .before .before .before .before2 .given .1)
-    (ap (λ (n : ℕ). Over (ticks (parts .0 .ticks + lasted .ticks)) (ticks n)) (c .longer .ensures)
-    ∙ sym (with-job-more (parts .0) (parts .1 .0) (lasted .ticks)))
+    rw (c .with-response .ensures, c .before .until .ensures, finish-of-at _ (c .before .before .before .if1 .left))
 
 pub with-job-spec : {M : Type 1} → statement M
 with-job-spec =
-    tie.close (tie.spec enum-known-before enum-told returns add-t5 longer-requires returns-2)
+    tie.close (tie.spec add-arrived returns add-finished until-requires with-response-requires returns-2)
