@@ -1,25 +1,19 @@
 -- How the report's text comes from what a run leaves: segments are read back from the trace list, and finishes from the finish list.
 use Prim.Native.Nat.{ℕ}
-use lib.Dec.{eqb}
 use lib.ListN.{length, getD}
-use mathlib.Core.Bool.{cond}
 use mathlib.Core.List.{List}
 use mathlib.Core.Path.{_≡_}
 use Rattle.books.specs.Accepted.{Accepted}
-use Rattle.finish.specs.Finish.{Finish, isOpen, at, finishList}
+use Rattle.finish.specs.Finish.{finishOf, finishList}
 use Rattle.moments.specs.Moments.{history}
 use Rattle.report.specs.DayReport.{jobWith}
-use Rattle.sizes.specs.Sizes.{mostArrivals, openJob, traceNumbers}
+use Rattle.sizes.specs.Sizes.{mostArrivals, traceNumbers}
 use Rattle.summary.specs.declared.Summary.{Summary}
 use Rattle.summary.specs.Summary.{finishes, summaries}
 use Rattle.trace.specs.declared.Segment.{Segment}
 use Rattle.trace.specs.Trace.{trace}
 use Rattle.trace.specs.Written.{written}
 use Rattle.workfile.specs.Work.{Work, work}
-
--- what a number of the finish list tells
-abbrev pub finishOf : ℕ → Finish
-finishOf n = cond (eqb n openJob) isOpen (at n)
 
 -- the line of job k by a finish list
 abbrev pub jobIn : Work → List ℕ → ℕ → List ℕ

@@ -1,18 +1,16 @@
 -- What the lists of a run tell is what the run defines.
-use Prim.Native.Nat.{ℕ, zero, suc, _*_, _≤_, _<_}
-use borrow.Author.Tests.{eq-eqb, ne-eqb, le-leb, lt-leb, lt-ltb}
+use Prim.Native.Nat.{ℕ, zero, suc, _*_, _≤_}
+use borrow.Author.Tests.{lt-ltb}
 use lib.ListN.{length, take, getD}
 use lib.Seq.{take-suc}
 use mathlib.Core.List.{List, [], _∷_, _++_, append-nil, append-assoc}
 use mathlib.Core.Path.{_≡_, refl, sym, _∙_, ap, ap₂}
-use native.Mathlib.Decide.{decLt}
 use native.Mathlib.Omega.{arith}
 use Rattle.counting.specs.Places.{getD-places}
-use Rattle.finish.specs.Finish.{isOpen, at, shown, servedBy, firstServed, finishList}
-use Rattle.finish.specs.ListLaws.{list-shows}
-use Rattle.history.specs.Choice.{History}
+use Rattle.finish.specs.Finish.{finishOf, finishList}
+use Rattle.finish.specs.ListLaws.{list-shows, finish-told}
 use Rattle.moments.specs.Moments.{history}
-use Rattle.sizes.specs.Sizes.{clockEnd, mostServers, openJob}
+use Rattle.sizes.specs.Sizes.{clockEnd, mostServers}
 use Rattle.summary.specs.Summary.{blank, finishes, summaries, summaryOf}
 use Rattle.text.specs.Line.{each}
 use Rattle.text.specs.LineLaws.{each-same}
@@ -21,23 +19,7 @@ use Rattle.trace.specs.HeldLaws.{segment-at}
 use Rattle.trace.specs.Written.{segmentIn, written}
 use Rattle.workfile.specs.Work.{Work}
 use Rattle.report.specs.DayReport.{jobWith, jobLine, segmentLine, segmentLines, serverLine}
-use Rattle.report.specs.Told.{finishOf, jobIn}
-
-pub finish-of-open : (n : ℕ) → n ≡ openJob → finishOf n ≡ isOpen
-finish-of-open n e = rw (eq-eqb n openJob e)
-
-pub finish-of-at : (n : ℕ) → (n ≡ openJob → ⊥) → finishOf n ≡ at n
-finish-of-at n e = rw (ne-eqb n openJob e)
-
--- a finish up to a horizon is told by its number
-finish-told : (h : History) (i work N : ℕ) → N ≤ clockEnd → finishOf (shown (servedBy h i work N)) ≡ servedBy h i work N
-unfolding servedBy
-finish-told h i work N few = go (decLt N (firstServed h i work N))
-  where
-    go : Dec (N < firstServed h i work N) → finishOf (shown (servedBy h i work N)) ≡ servedBy h i work N
-    go (yes late) = rw (lt-leb (firstServed h i work N) N late)
-    go (no early) =
-        rw (le-leb (firstServed h i work N) N (omega arith)) (finish-of-at (firstServed h i work N) (λ e. omega arith))
+use Rattle.report.specs.Told.{jobIn}
 
 -- the job lines by the finish list are those of the run
 pub jobs-told : (w : Work) (before : List ℕ) → w .horizon .tick ≤ clockEnd → w .arrivals ≤ length before
@@ -46,7 +28,7 @@ unfolding jobLine
 jobs-told w before few long =
     each-same (w .arrivals) (jobIn w (finishList (w .arrivals) (finishes w) before)) (jobLine w)
     (λ k b. ap (λ (n : ℕ). jobWith (w .arrival k) k (finishOf n)) (list-shows (w .arrivals) (finishes w) before k b long)
-    ∙ ap (jobWith (w .arrival k) k) (finish-told (history w) _ _ (w .horizon .tick) few))
+    ∙ ap (jobWith (w .arrival k) k) (finish-told (history w) _ _ (w .horizon .tick) (omega arith)))
 
 -- the server lines by the records are those of the run
 pub servers-told : (w : Work) → w .table .count ≤ mostServers

@@ -1,8 +1,8 @@
 // The lines of the report, each added behind what the text has. Every function answers the next place of the text.
 ghost use mathlib.Core.Path.{_≡_};
+ghost use Rattle.finish.specs.Finish.{finishOf};
 ghost use Rattle.refusal.specs.Refusals.{numberOf, placeOf};
 ghost use Rattle.report.specs.DayReport.{refusedLine, admittedLine, segmentLine, segmentsLine, finishFields, jobWith, totalField, longestField, serverLine};
-ghost use Rattle.report.specs.Told.{finishOf};
 ghost use Rattle.text.specs.Line.{bytesOf, goesOn};
 ghost use Rattle.text.specs.Page.{added, page};
 use arrival::Arrival;

@@ -5,8 +5,9 @@ use mathlib.Core.Path.{_≡_, _∙_, ap}
 use native.Mathlib.Omega.{arith}
 use Rattle.arrival.specs.declared.Arrival.{Arrival}
 use Rattle.books.specs.Accepted.{arrival-read, arrivals-read}
+use Rattle.finish.specs.Finish.{finishOf}
 use Rattle.report.specs.DayReport.{jobWith}
-use Rattle.report.specs.Told.{finishOf, jobIn}
+use Rattle.report.specs.Told.{jobIn}
 use Rattle.text.specs.Line.{each}
 use Rattle.text.specs.Page.{Page, page, added}
 use Rattle.text.specs.PageLaws.{added-as, added-length, each-none, each-next, each-all}

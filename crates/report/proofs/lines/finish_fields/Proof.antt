@@ -4,8 +4,8 @@ use mathlib.Core.List.{[], _∷_}
 use mathlib.Core.Path.{refl, sym, _∙_, ap}
 use Rattle.clock.specs.declared.Length.{Length}
 use Rattle.finish.specs.Finish.{Finish}
+use Rattle.finish.specs.ListLaws.{finish-of-open, finish-of-at}
 use Rattle.report.specs.DayReport.{finishFields}
-use Rattle.report.specs.ToldLaws.{finish-of-open, finish-of-at}
 use Rattle.text.specs.Line.{number, goesOn}
 use Rattle.text.specs.PageLaws.{added-as, added-then}
 use Rattle.report.proofs.lines.finish_fields.Statement.{statement}
