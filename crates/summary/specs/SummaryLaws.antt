@@ -1,16 +1,16 @@
--- How the summary grows by one finished job.
-use Prim.Native.Nat.{ℕ, zero, suc, _+_, _-_, _*_, _≤_, _<_, max}
+-- How the summary grows, arrival by arrival, and how great its numbers are.
+use Prim.Native.Nat.{ℕ, zero, suc, _+_, _*_, _≤_, _<_, max}
 use borrow.Author.Tests.{eq-eqb, ne-eqb}
 use lib.ListN.{length, length-append}
 use mathlib.Core.Bool.{cond}
 use mathlib.Core.List.{List, [], _∷_, _++_, append-nil}
-use mathlib.Core.Path.{_≡_, refl, _∙_, ap, ap₂, subst⁻¹}
+use mathlib.Core.Path.{_≡_, refl, _∙_, ap, ap₂}
 use native.Mathlib.Decide.{ℕ-discrete}
-use native.Mathlib.Nat.{mul-le-mul-right, not-suc-le-zero}
+use native.Mathlib.Nat.{mul-le-mul-right}
 use native.Mathlib.Omega.{arith}
 use Rattle.clock.specs.declared.Length.{Length}
 use Rattle.clock.specs.Clock.{moment, ticks, until}
-use Rattle.counting.specs.Totals.{total, longest, total-append, longest-append, total-le, Grown, grown-last, grown-append}
+use Rattle.counting.specs.Totals.{total, longest, total-append, longest-append, total-le}
 use Rattle.finish.specs.Finish.{Finish, isOpen, at}
 use Rattle.workfile.specs.Work.{Work}
 use Rattle.summary.specs.declared.Response.{Response}
@@ -49,14 +49,6 @@ response-more (a ∷ l) r =
     ap₂ (λ (t u : ℕ). Over (ticks t) (ticks u)) (omega (arith, total-append l (r ∷ [])))
     (omega (arith, longest-append l (r ∷ [])))
 
-response-grown : (l m : List ℕ) (r : ℕ) → Grown l m r → responseIn m ≡ withJob (responseIn l) r
-unfolding responseIn withJob total longest
-response-grown [] [] r g = let no : ⊥ = omega (arith, g .length-is) in absurd no
-response-grown [] (b ∷ m) r g =
-    ap₂ (λ (t u : ℕ). Over (ticks t) (ticks u)) (omega (arith, g .total-is)) (omega (arith, g .longest-is))
-response-grown (a ∷ l) [] r g = let no : ⊥ = omega (arith, g .length-is) in absurd no
-response-grown (a ∷ l) (b ∷ m) r g = ap₂ (λ (t u : ℕ). Over (ticks t) (ticks u)) (g .total-is) (g .longest-is)
-
 -- what arrival k adds to the responses of server i, by its finish
 abbrev adds : Work → ℕ → ℕ → Finish → List ℕ
 adds w i k x = cond (isJob w i k) (responseOf w k x) []
@@ -83,24 +75,21 @@ module _ (w : Work) (f : ℕ → Finish) (i k : ℕ) where
     unfolding responsesOf
     responses-at t e = rw (adds-own w i k (f k) own, e)
 
--- Jobs that add the same have the same responses.
-responses-by : (w : Work) (f g : ℕ → Finish) (i n : ℕ) → ((k : ℕ) → k < n → adds w i k (f k) ≡ adds w i k (g k))
-    → responsesOf w f i n ≡ responsesOf w g i n
+-- The same finishes have the same responses.
+responses-by : (w : Work) (f g : ℕ → Finish) (i n : ℕ) → ((k : ℕ) → k < n → f k ≡ g k) → responsesOf w f i n ≡ responsesOf w g i n
 unfolding responsesOf
 responses-by w f g i zero same = refl
-responses-by w f g i (suc n) same = ap₂ _++_ (responses-by w f g i n (λ k b. same k (omega arith))) (same n (omega arith))
+responses-by w f g i (suc n) same =
+    ap₂ _++_ (responses-by w f g i n (λ k b. same k (omega arith))) (ap (adds w i n) (same n (omega arith)))
 
 module _ (w : Work) (f g : ℕ → Finish) (same : (k : ℕ) → k < w .arrivals → f k ≡ g k) (i : ℕ) where
-  list-same : responsesOf w f i (w .arrivals) ≡ responsesOf w g i (w .arrivals)
-  list-same = responses-by w f g i (w .arrivals) (λ k b. ap (adds w i k) (same k b))
-
   pub finished-same : finishedOf w f i ≡ finishedOf w g i
   unfolding finishedOf
-  finished-same = ap length list-same
+  finished-same = ap length (responses-by w f g i (w .arrivals) same)
 
   pub responses-same : responses w f i ≡ responses w g i
   unfolding responses
-  responses-same = ap responseIn list-same
+  responses-same = ap responseIn (responses-by w f g i (w .arrivals) same)
 
 -- a server none of whose jobs has finished
 none-upto : (w : Work) (f : ℕ → Finish) (i n : ℕ) → ((k : ℕ) → k < n → w .arrival k .server ≡ i → f k ≡ isOpen)
@@ -122,67 +111,6 @@ module _ (w : Work) (f : ℕ → Finish) (i : ℕ) (none : (k : ℕ) → k < w .
   pub responses-none : responses w f i ≡ Absent
   unfolding responses responseIn
   responses-none = ap responseIn (none-upto w f i (w .arrivals) none)
-
--- Of two runs that differ at one job alone, which is open in the first and has finished in the second.
-module _ (w : Work) (f g : ℕ → Finish) (job t : ℕ) (here : job < w .arrivals) (was : f job ≡ isOpen) (is : g job ≡ at t)
-    (others : (k : ℕ) → k < w .arrivals → (k ≡ job → ⊥) → f k ≡ g k) where
-  -- its own server has one finished job more
-  module _ (i : ℕ) (own : w .arrival job .server ≡ i) where
-    -- before it the responses are the same
-    before-job : responsesOf w f i job ≡ responsesOf w g i job
-    before-job = responses-by w f g i job (λ k b. ap (adds w i k) (others k (omega arith) (λ e. omega arith)))
-
-    -- with it there is one more
-    with-own : Grown (responsesOf w f i (suc job)) (responsesOf w g i (suc job)) (t - w .arrival job .moment .tick)
-    unfolding responsesOf
-    with-own = rw (adds-own w i job (f job) own, adds-own w i job (g job) own, was, is, append-nil, before-job) (grown-last _ _)
-
-    -- and so from there on
-    grown-upto : (n : ℕ) → job < n → n ≤ w .arrivals
-        → Grown (responsesOf w f i n) (responsesOf w g i n) (t - w .arrival job .moment .tick)
-    unfolding responsesOf
-    grown-upto zero l b = absurd (not-suc-le-zero l)
-    grown-upto (suc n) l b = go (ℕ-discrete n job) (grown-upto n)
-      where
-        r : ℕ
-        r = t - w .arrival job .moment .tick
-
-        go : Dec (n ≡ job) → (job < n → n ≤ w .arrivals → Grown (responsesOf w f i n) (responsesOf w g i n) r)
-            → Grown (responsesOf w f i (suc n)) (responsesOf w g i (suc n)) r
-        go (yes q) before = subst⁻¹ (λ (k : ℕ). Grown (responsesOf w f i (suc k)) (responsesOf w g i (suc k)) r) q with-own
-        go (no q) before =
-            subst⁻¹ (λ (x : Finish). Grown (responsesOf w f i n ++ adds w i n x) (responsesOf w g i n ++ adds w i n (g n)) r)
-            (others n (omega arith) q)
-            (grown-append (before (omega arith) (omega arith)) (adds w i n (g n)))
-
-    grown-all : Grown (responsesOf w f i (w .arrivals)) (responsesOf w g i (w .arrivals)) (t - w .arrival job .moment .tick)
-    grown-all = grown-upto (w .arrivals) here (omega arith)
-
-    pub finished-more : finishedOf w g i ≡ finishedOf w f i + 1
-    unfolding finishedOf
-    finished-more = grown-all .length-is
-
-    pub responses-more : responses w g i ≡ withJob (responses w f i) (t - w .arrival job .moment .tick)
-    unfolding responses
-    responses-more = response-grown _ _ _ grown-all
-
-  -- and any other has what it had
-  module _ (i : ℕ) (other : w .arrival job .server ≡ i → ⊥) where
-    list-alike : responsesOf w f i (w .arrivals) ≡ responsesOf w g i (w .arrivals)
-    list-alike = responses-by w f g i (w .arrivals) (λ k b. go k b (ℕ-discrete k job))
-      where
-        go : (k : ℕ) → k < w .arrivals → Dec (k ≡ job) → adds w i k (f k) ≡ adds w i k (g k)
-        go k b (yes q) =
-            subst⁻¹ (λ (n : ℕ). adds w i n (f n) ≡ adds w i n (g n)) q (rw (ne-eqb (w .arrival job .server) i other))
-        go k b (no n) = ap (adds w i k) (others k b n)
-
-    pub finished-alike : finishedOf w f i ≡ finishedOf w g i
-    unfolding finishedOf
-    finished-alike = ap length list-alike
-
-    pub responses-alike : responses w f i ≡ responses w g i
-    unfolding responses
-    responses-alike = ap responseIn list-alike
 
 -- an arrival adds one response at most
 adds-few : (w : Work) (i k : ℕ) (x : Finish) → length (adds w i k x) ≤ 1
