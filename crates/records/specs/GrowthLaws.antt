@@ -19,7 +19,7 @@ use Rattle.sizes.specs.Sizes.{mostServers, openJob}
 use Rattle.summary.specs.declared.Response.{Response}
 use Rattle.summary.specs.declared.Summary.{Summary}
 use Rattle.summary.specs.Summary.{blank, isJob, responseOf, responseIn, responsesOf, arrivedOf, finishedOf, responses}
-use Rattle.summary.specs.SummaryLaws.{totalOf, withJob, response-more, responses-other, responses-open, responses-at, few-upto, total-upto}
+use Rattle.summary.specs.SummaryLaws.{totalOf, withResponse, response-more, responses-other, responses-open, responses-at, few-upto, total-upto}
 use Rattle.workfile.specs.Work.{Work}
 use Rattle.records.specs.Records.{finishIn, recordOf, recordsOf}
 
@@ -36,8 +36,8 @@ still-narrow (x ∷ l) h zero = h 0
 still-narrow (x ∷ l) h (suc j) = still-narrow l (λ i. h (suc i)) j
 
 -- a record with one job more: an open one has arrived, and any other has finished too
-unfoldable pub withOne : Summary → Moment → Finish → Summary
-withOne s came isOpen =
+unfoldable pub withJob : Summary → Moment → Finish → Summary
+withJob s came isOpen =
     record {
       arrived = s .arrived + 1;
       finished = s .finished;
@@ -45,13 +45,13 @@ withOne s came isOpen =
       interrupted = s .interrupted;
       response = s .response;
     }
-withOne s came (at t) =
+withJob s came (at t) =
     record {
       arrived = s .arrived + 1;
       finished = s .finished + 1;
       postponed = s .postponed;
       interrupted = s .interrupted;
-      response = withJob (s .response) (until came (moment t) .ticks);
+      response = withResponse (s .response) (until came (moment t) .ticks);
     }
 
 -- a record whose numbers 64 bits still hold with one job more, of at most r ticks
@@ -96,9 +96,9 @@ module _ (w : Work) (list : List ℕ) where
         (sym (responses-other w (finishIn list) i k other))
 
     -- and of its own that it has arrived, and finished where the list says so
-    own-grows : withOne (recordUpTo k (w .arrival k .server)) (w .arrival k .moment) (finishIn list k)
+    own-grows : withJob (recordUpTo k (w .arrival k .server)) (w .arrival k .moment) (finishIn list k)
         ≡ recordUpTo (suc k) (w .arrival k .server)
-    unfolding recordUpTo withOne
+    unfolding recordUpTo withJob
     own-grows = go (finishIn list k) refl
       where
         i : ℕ
@@ -110,7 +110,7 @@ module _ (w : Work) (list : List ℕ) where
         hit : count k (isJob w i) + 1 ≡ count (suc k) (isJob w i)
         hit = sym (count-hit k (isJob w i) (eq-eqb i i refl))
 
-        go : (x : Finish) → finishIn list k ≡ x → withOne (recordUpTo k i) (w .arrival k .moment) x ≡ recordUpTo (suc k) i
+        go : (x : Finish) → finishIn list k ≡ x → withJob (recordUpTo k i) (w .arrival k .moment) x ≡ recordUpTo (suc k) i
         go isOpen e = ap₂ overJobs hit (sym (responses-open w (finishIn list) i k refl e))
         go (at t) e =
             let lasted = until (w .arrival k .moment) (moment t) .ticks in
@@ -127,14 +127,14 @@ module _ (w : Work) (list : List ℕ) where
           (λ i b. other-stays i (λ e. omega (arith, ap (λ (x : Arrival). x .server) read)))
 
       pub records-more : a .server < mostServers
-          → set records (a .server) (withOne (getD records (a .server) blank) (a .moment) (finishIn list k)) ≡ recordsUpTo (suc k)
+          → set records (a .server) (withJob (getD records (a .server) blank) (a .moment) (finishIn list k)) ≡ recordsUpTo (suc k)
       unfolding recordsUpTo
       records-more place =
           let i = w .arrival k .server in
           let known : i < mostServers = rw read at place in
           rw (before, read)
           (ap (set (recordsUpTo k) i)
-          (ap (λ (s : Summary). withOne s (w .arrival k .moment) (finishIn list k)) (getD-places mostServers (recordUpTo k) i blank known)
+          (ap (λ (s : Summary). withJob s (w .arrival k .moment) (finishIn list k)) (getD-places mostServers (recordUpTo k) i blank known)
           ∙ own-grows)
           ∙ set-places mostServers (recordUpTo k) (recordUpTo (suc k)) i known (λ j q. other-stays j (λ e. q (sym e))))
 

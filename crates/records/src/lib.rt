@@ -7,10 +7,10 @@ ghost use Rattle.clock.specs.Clock.{lastTick};
 ghost use Rattle.finish.specs.Finish.{finishOf};
 ghost use Rattle.sizes.specs.Sizes.{mostServers, openJob};
 ghost use Rattle.summary.specs.Summary.{blank};
-ghost use Rattle.summary.specs.SummaryLaws.{totalOf, withJob};
+ghost use Rattle.summary.specs.SummaryLaws.{totalOf, withResponse};
 ghost use Rattle.workfile.specs.Layout.{header};
 ghost use Rattle.workfile.specs.Work.{work};
-ghost use Rattle.records.specs.GrowthLaws.{Roomy, recordsUpTo, withOne};
+ghost use Rattle.records.specs.GrowthLaws.{Roomy, recordsUpTo, withJob};
 ghost use Rattle.records.specs.Records.{filled, recordsOf};
 use clock::Length;
 use clock::Moment;
@@ -66,7 +66,7 @@ fn finish_in(finishes: &[u32], k: usize) -> u32
 fn one_more(records: [Summary; sizes::MOST_SERVERS], i: usize, came: Moment, finish: u32) -> Summary
     requires { ⌜ i < mostServers ⌝ }
     requires { ⌜ Roomy (getD records i blank) finish ⌝ }
-    ensures { λ r. ⌜ r ≡ withOne (getD records i blank) came (finishOf finish) ⌝ }
+    ensures { λ r. ⌜ r ≡ withJob (getD records i blank) came (finishOf finish) ⌝ }
 {
     with_job(records[i], came, finish)
 }
@@ -74,7 +74,7 @@ fn one_more(records: [Summary; sizes::MOST_SERVERS], i: usize, came: Moment, fin
 // A record with one job more, for which the list has `finish`: an open one has arrived, and any other has finished too.
 fn with_job(s: Summary, came: Moment, finish: u32) -> Summary
     requires { ⌜ Roomy s finish ⌝ }
-    ensures { λ r. ⌜ r ≡ withOne s came (finishOf finish) ⌝ }
+    ensures { λ r. ⌜ r ≡ withJob s came (finishOf finish) ⌝ }
 {
     let arrived = s.arrived + 1;
     let before = s.response;
@@ -101,7 +101,7 @@ fn with_job(s: Summary, came: Moment, finish: u32) -> Summary
 // The response over one job more.
 fn with_response(before: Response, lasted: Length) -> Response
     requires { ⌜ totalOf before + lasted .ticks ≤ lastTick ⌝ }
-    ensures { λ r. ⌜ r ≡ withJob before (lasted .ticks) ⌝ }
+    ensures { λ r. ⌜ r ≡ withResponse before (lasted .ticks) ⌝ }
 {
     let Response::Over { total, longest } = before else {
         return Response::Over {

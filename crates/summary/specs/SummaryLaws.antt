@@ -23,27 +23,27 @@ totalOf Absent = 0
 totalOf (Over total longest) = total .ticks
 
 -- the response with one job more
-unfoldable pub withJob : Response → ℕ → Response
-withJob Absent r = Over (ticks r) (ticks r)
-withJob (Over total longest) r = Over (ticks (total .ticks + r)) (ticks (max (longest .ticks) r))
+unfoldable pub withResponse : Response → ℕ → Response
+withResponse Absent r = Over (ticks r) (ticks r)
+withResponse (Over total longest) r = Over (ticks (total .ticks + r)) (ticks (max (longest .ticks) r))
 
 -- the cases of the two
 pub total-over : (total longest : Length) → totalOf (Over total longest) ≡ total .ticks
 unfolding totalOf
 total-over total longest = refl
 
-pub with-job-first : (r : ℕ) → withJob Absent r ≡ Over (ticks r) (ticks r)
-unfolding withJob
-with-job-first r = refl
+pub with-response-first : (r : ℕ) → withResponse Absent r ≡ Over (ticks r) (ticks r)
+unfolding withResponse
+with-response-first r = refl
 
-pub with-job-more : (total longest : Length) (r : ℕ)
-    → withJob (Over total longest) r ≡ Over (ticks (total .ticks + r)) (ticks (max (longest .ticks) r))
-unfolding withJob
-with-job-more total longest r = refl
+pub with-response-more : (total longest : Length) (r : ℕ)
+    → withResponse (Over total longest) r ≡ Over (ticks (total .ticks + r)) (ticks (max (longest .ticks) r))
+unfolding withResponse
+with-response-more total longest r = refl
 
 -- with one number more a list's response has one job more
-pub response-more : (l : List ℕ) (r : ℕ) → responseIn (l ++ r ∷ []) ≡ withJob (responseIn l) r
-unfolding responseIn withJob total longest
+pub response-more : (l : List ℕ) (r : ℕ) → responseIn (l ++ r ∷ []) ≡ withResponse (responseIn l) r
+unfolding responseIn withResponse total longest
 response-more [] r = ap₂ (λ (t u : ℕ). Over (ticks t) (ticks u)) (omega arith) (omega arith)
 response-more (a ∷ l) r =
     ap₂ (λ (t u : ℕ). Over (ticks t) (ticks u)) (omega (arith, total-append l (r ∷ [])))

@@ -2,7 +2,7 @@
 use borrow.Author.Needs.{needs}
 use native.Mathlib.Omega.{arith}
 use Rattle.finish.specs.ListLaws.{finish-of-open, finish-of-at}
-use Rattle.records.specs.GrowthLaws.{withOne}
+use Rattle.records.specs.GrowthLaws.{withJob}
 use Rattle.records.proofs.with_job.Statement.{statement}
 use Rattle.records.proofs.with_job.Tie as tie
 
@@ -10,7 +10,7 @@ add-arrived : tie.Need-add-arrived
 add-arrived c = search needs
 
 returns : tie.Need-returns
-unfolding withOne
+unfolding withJob
 returns c = rw (finish-of-open _ (c .if1 .taken))
 
 add-finished : tie.Need-add-finished
@@ -23,7 +23,7 @@ with-response-requires : tie.Need-with-response-requires
 with-response-requires c κs = rw (c .until .ensures) (omega (arith, c .before .before .before .before .pre .total))
 
 returns-2 : tie.Need-returns-2
-unfolding withOne
+unfolding withJob
 returns-2 c =
     rw (c .with-response .ensures, c .before .until .ensures, finish-of-at _ (c .before .before .before .if1 .left))
 

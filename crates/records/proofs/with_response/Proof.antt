@@ -5,7 +5,7 @@ use mathlib.Core.Path.{sym, _∙_, ap}
 use native.Mathlib.Omega.{arith}
 use Rattle.clock.specs.Clock.{ticks}
 use Rattle.summary.specs.declared.Response.the-variants.{Over}
-use Rattle.summary.specs.SummaryLaws.{totalOf, total-over, with-job-first, with-job-more}
+use Rattle.summary.specs.SummaryLaws.{totalOf, total-over, with-response-first, with-response-more}
 use Rattle.records.proofs.with_response.Statement.{statement}
 use Rattle.records.proofs.with_response.Tie as tie
 
@@ -16,7 +16,7 @@ enum-told : tie.Need-enum-told
 enum-told c = search needs
 
 returns : tie.Need-returns
-returns c = rw (c .enum-told .given .1) (sym (with-job-first _))
+returns c = rw (c .enum-told .given .1) (sym (with-response-first _))
 
 add-t5 : tie.Need-add-t5
 add-t5 c =
@@ -32,7 +32,7 @@ returns-2 c =
     let lasted = c .before .before .before .before .before .before .args .lasted in
     rw (c .before .before .before .before .before2 .given .1)
     (ap (λ (n : ℕ). Over (ticks (parts .0 .ticks + lasted .ticks)) (ticks n)) (c .longer .ensures)
-    ∙ sym (with-job-more (parts .0) (parts .1 .0) (lasted .ticks)))
+    ∙ sym (with-response-more (parts .0) (parts .1 .0) (lasted .ticks)))
 
 pub with-response-spec : {M : Type 1} → statement M
 with-response-spec =
