@@ -61,7 +61,7 @@ int main(int count, char **arguments)
             return 0; // the caller sees by its own count whether one is missing
         int got = read_file(in);
         close(in);
-        report();
+        report(tick_by_tick);
         if (!got || !write_expected(folder, number))
             return 1;
     }
