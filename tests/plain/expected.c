@@ -4,9 +4,13 @@
 //
 // It takes the files FIRST, FIRST + STEP, FIRST + 2 * STEP .. until one is missing, so several can share the work. Starting one
 // program for each file would take longer than the reports where an emulator runs it.
+//
+// What is expected comes from the run tick by tick. The run from event to event has to give the same text: where it does not,
+// its text is written to FOLDER/NNNN.events, and nothing further is done.
 
 #define WITHOUT_MAIN
 #include "report.c"
+#include "events.c"
 
 int open(const char *path, int flags, ...);
 int close(int file);
@@ -14,6 +18,8 @@ int close(int file);
 enum { READ = 0, WRITE_NEW = 01 | 0100 | 01000 }; // O_RDONLY; O_WRONLY, O_CREAT and O_TRUNC on x86-64 Linux
 
 static char path[4096];
+static char expected_text[sizeof text];
+static u64 expected_length;
 
 static u64 number_of(const char *digits)
 {
@@ -38,15 +44,45 @@ static int set_path(const char *folder, u64 number, const char *ending)
     return !*folder;
 }
 
-static int write_expected(const char *folder, u64 number)
+// Writes the text to FOLDER/NNNN and an ending.
+static int save_text(const char *folder, u64 number, const char *ending)
 {
-    if (!set_path(folder, number, ".expected"))
+    if (!set_path(folder, number, ending))
         return 0;
     int out = open(path, WRITE_NEW, 0644);
     if (out < 0)
         return 0;
     int written = write_text(out);
     return close(out) == 0 && written;
+}
+
+static void keep_text(void)
+{
+    expected_length = text_length;
+    for (u64 i = 0; i < text_length; i++)
+        expected_text[i] = text[i];
+}
+
+static int same_text(void)
+{
+    u64 i = 0;
+    while (i < text_length && text[i] == expected_text[i])
+        i++;
+    return text_length == expected_length && i == text_length;
+}
+
+// Both reports on the file that was read. Answers whether they are written, and equal.
+static int write_expected(const char *folder, u64 number)
+{
+    report(tick_by_tick);
+    if (!save_text(folder, number, ".expected"))
+        return 0;
+    keep_text();
+    report(event_to_event);
+    if (same_text())
+        return 1;
+    save_text(folder, number, ".events");
+    return 0;
 }
 
 int main(int count, char **arguments)
@@ -61,7 +97,6 @@ int main(int count, char **arguments)
             return 0; // the caller sees by its own count whether one is missing
         int got = read_file(in);
         close(in);
-        report(tick_by_tick);
         if (!got || !write_expected(folder, number))
             return 1;
     }
