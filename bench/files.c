@@ -1,10 +1,12 @@
-// Writes the work files of bench/run: FOLDER/start, FOLDER/short-jobs, FOLDER/segments and FOLDER/arrivals.
+// Writes the work files that are measured.
 //
-//     files FOLDER
+//     files FOLDER run      those of bench/run and bench/stack, under the names in the list at the end
 
 #include "../tests/plain/work_file.h"
 
 enum { SERVERS_IN_USE = 64, LONGEST = 2419200, WEEK = 604800 };
+
+// ---- Those of bench/run ----
 
 // 64 servers, each with the same small share of a long frame and one of several periods.
 static void many_servers(void)
@@ -15,6 +17,21 @@ static void many_servers(void)
         u32 t = periods[s % 6];
         add_server(t / 75, t);
     }
+}
+
+// Servers that share out the whole node among them, each with the same budget.
+static void equal_servers(u32 servers, u32 each, u32 ticks)
+{
+    begin(servers * each, ticks);
+    for (u32 s = 0; s < servers; s++)
+        add_server(each, frame);
+}
+
+// So many jobs from the beginning, as long as a job can be, the servers taking turns.
+static void jobs_from_the_beginning(u32 jobs)
+{
+    for (u32 k = 0; k < jobs; k++)
+        add_arrival(0, k % server_count, WEEK);
 }
 
 // Nothing to do: what is measured is the start of the process.
@@ -36,11 +53,15 @@ static void short_jobs(void)
 // Every server always has work, and every tick postpones: as many segments as ticks.
 static void always_busy(void)
 {
-    begin(SERVERS_IN_USE, LONGEST);
-    for (u32 s = 0; s < SERVERS_IN_USE; s++) {
-        add_server(1, SERVERS_IN_USE);
-        add_arrival(0, s, WEEK);
-    }
+    equal_servers(SERVERS_IN_USE, 1, LONGEST);
+    jobs_from_the_beginning(SERVERS_IN_USE);
+}
+
+// As many segments as ticks here too, and nobody to choose from. One job is too short to fill the horizon.
+static void one_alone(void)
+{
+    equal_servers(1, 1, LONGEST);
+    jobs_from_the_beginning(LONGEST / WEEK);
 }
 
 // As many arrivals as a file takes, with about 1.2 times the work that the node can do.
@@ -54,21 +75,40 @@ static void overload(void)
     }
 }
 
+// ---- The lists ----
+
 static const struct {
     const char *name;
     void (*make)(void);
-} files[] = {{"start", nothing}, {"short-jobs", short_jobs}, {"segments", always_busy}, {"arrivals", overload}};
+} files[] = {{"start", nothing},
+             {"short-jobs", short_jobs},
+             {"segments", always_busy},
+             {"arrivals", overload},
+             {"lone", one_alone}};
 
-int main(int count, char **arguments)
+static int save_files(const char *folder)
 {
-    if (count != 2)
-        return 2;
     for (u32 i = 0; i < sizeof files / sizeof *files; i++) {
         seed = i;
         files[i].make();
         encode(0, 0, 0);
-        if (!save(arguments[1], files[i].name))
-            return 1;
+        if (!save(folder, files[i].name))
+            return 0;
     }
-    return 0;
+    return 1;
+}
+
+// Whether two words are the same.
+static int same(const char *a, const char *b)
+{
+    while (*a && *a == *b)
+        a++, b++;
+    return *a == *b;
+}
+
+int main(int count, char **arguments)
+{
+    if (count == 3 && same(arguments[2], "run"))
+        return save_files(arguments[1]) ? 0 : 1;
+    return 2;
 }
