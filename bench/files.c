@@ -1,6 +1,8 @@
 // Writes the work files that are measured.
 //
 //     files FOLDER run      those of bench/run and bench/stack, under the names in the list at the end
+//     files FOLDER growth   those of bench/growth: FOLDER/nothing, FOLDER/segments-0, FOLDER/segments-1 .. and the same
+//                           of arrivals and servers
 
 #include "../tests/plain/work_file.h"
 
@@ -75,6 +77,36 @@ static void overload(void)
     }
 }
 
+// ---- Those of bench/growth. Every server always has work, so that a step changes one thing and leaves the others. ----
+
+enum { STEPS = 7 }; // each with twice as much as the one before it
+
+// With a budget of 1 there is a segment for every tick.
+static void growing_segments(u32 step)
+{
+    equal_servers(SERVERS_IN_USE, 1, LONGEST >> (STEPS - 1 - step));
+    jobs_from_the_beginning(SERVERS_IN_USE);
+}
+
+// The same work in more and shorter jobs. Each comes when three quarters of what its server had before are served, so that the
+// segments stay the same: as many as there are budgets in the horizon.
+static void growing_arrivals(u32 step)
+{
+    enum { BUDGET = 64, WORK = LONGEST / SERVERS_IN_USE + BUDGET }; // of a server: more than it can be served
+    u32 jobs = 1u << step, apart = LONGEST / jobs / 4 * 3;
+    equal_servers(SERVERS_IN_USE, BUDGET, LONGEST);
+    for (u32 k = 0; k < jobs; k++)
+        for (u32 s = 0; s < SERVERS_IN_USE; s++)
+            add_arrival(k * apart + (k > 0 ? s : 0), s, (WORK + jobs - 1) / jobs);
+}
+
+// Fewer servers have more jobs each, so that the arrivals stay the same.
+static void growing_servers(u32 step)
+{
+    equal_servers(1u << step, 1, LONGEST);
+    jobs_from_the_beginning(SERVERS_IN_USE);
+}
+
 // ---- The lists ----
 
 static const struct {
@@ -86,6 +118,12 @@ static const struct {
              {"arrivals", overload},
              {"lone", one_alone}};
 
+// The names have a place for the step.
+static struct {
+    char name[16];
+    void (*make)(u32 step);
+} growing[] = {{"segments-?", growing_segments}, {"arrivals-?", growing_arrivals}, {"servers-?", growing_servers}};
+
 static int save_files(const char *folder)
 {
     for (u32 i = 0; i < sizeof files / sizeof *files; i++) {
@@ -95,6 +133,26 @@ static int save_files(const char *folder)
         if (!save(folder, files[i].name))
             return 0;
     }
+    return 1;
+}
+
+static int save_growing(const char *folder)
+{
+    nothing();
+    encode(0, 0, 0);
+    if (!save(folder, "nothing"))
+        return 0;
+    for (u32 i = 0; i < sizeof growing / sizeof *growing; i++)
+        for (u32 step = 0; step < STEPS; step++) {
+            char *place = growing[i].name;
+            while (place[1])
+                place++;
+            *place = (char)('0' + step);
+            growing[i].make(step);
+            encode(0, 0, 0);
+            if (!save(folder, growing[i].name))
+                return 0;
+        }
     return 1;
 }
 
@@ -110,5 +168,7 @@ int main(int count, char **arguments)
 {
     if (count == 3 && same(arguments[2], "run"))
         return save_files(arguments[1]) ? 0 : 1;
+    if (count == 3 && same(arguments[2], "growth"))
+        return save_growing(arguments[1]) ? 0 : 1;
     return 2;
 }
