@@ -1,8 +1,9 @@
 // Text in a lent buffer: bytes and numbers in decimal, added one behind the other. What does not fit is left out, and no place is
 // touched but those that the added bytes take.
+ghost use Prim.Native.Nat.{_%_};
 ghost use mathlib.Core.List.{[], _∷_, _++_};
 ghost use mathlib.Core.Path.{_≡_};
-ghost use Rattle.text.specs.Line.{decimal};
+ghost use Rattle.text.specs.Line.{decimal, digit};
 ghost use Rattle.text.specs.Page.{added, page};
 
 const ZERO: u8 = b'0';
@@ -35,11 +36,18 @@ pub fn add(text: &mut [u8], next: usize, bytes: &[u8]) -> usize
 pub fn add_number(text: &mut [u8], next: usize, n: u64) -> usize
     ensures { λ r. ⌜ page (now (text .exit)) r ≡ added (decimal n) (page (now (text .entry)) next) ⌝ }
 {
-    if n < 10 {
-        return add_byte(text, next, ZERO + n as u8);
+    let mut at = next;
+    if 10 <= n {
+        at = add_number(text, at, n / 10);
     }
-    let at = add_number(text, next, n / 10);
-    add_byte(text, at, ZERO + (n % 10) as u8)
+    add_byte(text, at, last_digit(n))
+}
+
+// The last digit of a number, as a byte.
+fn last_digit(n: u64) -> u8
+    ensures { λ r. ⌜ r ≡ digit (n % 10) ⌝ }
+{
+    ZERO + (n % 10) as u8
 }
 
 // Adds words and a number behind them, and answers the next place.

@@ -1,18 +1,27 @@
--- `text::add_number` meets its promise: a number below 10 is one digit, and any other is a tenth of it, which is smaller, and its last
--- digit.
-use Prim.Native.Nat.{ℕ, _<_}
+-- `text::add_number` meets its promise: before its last digit a number has a tenth of it, which is smaller, or nothing where it is below 10.
+use Prim.Native.Nat.{ℕ, _%_, _<_}
 use borrow.Fn.Kinds.{In}
 use borrow.Fn.PlainCycle.{Measures, is, falls, and}
-use mathlib.Core.Path.{sym, _∙_}
+use lib.ListN.{length}
+use mathlib.Core.List.{[], _∷_}
+use mathlib.Core.Logic.{⊎-elim}
+use mathlib.Core.Path.{_≡_, sym, _∙_, ap, ap₂}
 use native.Mathlib.Omega.{arith}
+use Rattle.text.specs.Line.{digit, decimal}
 use Rattle.text.specs.LineLaws.{decimal-last, decimal-more}
-use Rattle.text.specs.PageLaws.{added-as, added-then}
+use Rattle.text.specs.Page.{Page, page, added}
+use Rattle.text.specs.PageLaws.{added-as, added-length, added-then}
 use Rattle.text.proofs.add_number.Reads as add-number
 use Rattle.text.proofs.add_number.Kinds as add-number-kinds
 use Rattle.text.proofs.+add_number.Lts-add_number as lts
 use Rattle.text.proofs.add_byte.Reads as add-byte
+use Rattle.text.proofs.last_digit.Reads as last-digit
 use Rattle.text.proofs.+add_number.{statement}
 use Rattle.text.proofs.+add_number.Tie.{close}
+
+-- a number below 10 is its last digit
+decimal-one : (n : ℕ) → n < 10 → decimal n ≡ digit (n % 10) ∷ []
+decimal-one n h = decimal-last n h ∙ ap (λ (d : ℕ). digit d ∷ []) (omega arith)
 
 -- the number itself falls
 abbrev μ : Measures 1 add-number-kinds.ps ℕ
@@ -28,46 +37,32 @@ below t = and 1 add-number-kinds.ps (falls 1 add-number-kinds.ps _<_ μ t) add-n
 module _ (t : ℕ) where
   -- what is known of the functions that it calls
   abbrev calls : lts.Claims
-  calls = (add-byte.Asked, add-byte.Learnt, below t, add-number.Post)
+  calls = (below t, add-number.Post, last-digit.Asked, last-digit.Learnt, add-byte.Asked, add-byte.Learnt)
 
-  last-digit : lts.Need-cast-add-byte calls (given t) add-number.Post
-  last-digit c = record { fits = omega (arith, c .before .if1 .taken) }
+  falls-to-a-tenth : lts.Need-add-number-requires calls (given t) add-number.Post
+  falls-to-a-tenth c κs = (omega (arith, c .before .if1 .taken, c .before .before .before .pre .0), tt)
 
-  last-byte : lts.Need-add-add-byte calls (given t) add-number.Post
-  last-byte c = record { fits = omega (arith, c .before .if1 .taken) }
-
-  asks-nothing : lts.Need-add-byte-requires calls (given t) add-number.Post
+  asks-nothing : lts.Need-last-digit-requires calls (given t) add-number.Post
   asks-nothing c κs = tt
 
-  same-length : lts.Need-same-length calls (given t) add-number.Post
-  same-length c = c .before .before .add-byte .kept .0
+  asks-nothing-2 : lts.Need-add-byte-requires calls (given t) add-number.Post
+  asks-nothing-2 c κs = tt
 
   returns : lts.Need-returns calls (given t) add-number.Post
   returns c =
-      added-as _ (sym (decimal-last _ (c .before .before .before .before .if1 .taken))) (c .before .before .add-byte .ensures)
+      let digit = c .before .before .before in
+      let number = digit .before .before in
+      let last = added-as _ (ap (λ (b : ℕ). b ∷ []) (digit .last-digit .ensures)) (c .before .before .add-byte .ensures) in
+      ⊎-elim
+      (λ w. added-as _ (sym (decimal-more _ (w .0 .taken)))
+      (added-then _ _ _ (ap₂ page (w .5) (w .6) ∙ w .2 .ensures) last))
+      (λ w. added-as _ (sym (decimal-one _ (w .0 .left))) (last ∙ ap (added _) (ap₂ page (w .1) (w .2))))
+      (number .if1 .came)
 
-  falls-to-a-tenth : lts.Need-add-number-requires calls (given t) add-number.Post
-  falls-to-a-tenth c κs = (omega (arith, c .before .if1 .left, c .before .before .before .pre .0), tt)
-
-  next-digit : lts.Need-cast-add-byte-2 calls (given t) add-number.Post
-  next-digit c = record { fits = omega arith }
-
-  next-byte : lts.Need-add-add-byte-2 calls (given t) add-number.Post
-  next-byte c = record { fits = omega arith }
-
-  asks-nothing-2 : lts.Need-add-byte-requires-2 calls (given t) add-number.Post
-  asks-nothing-2 c κs = tt
-
-  same-length-2 : lts.Need-same-length-2 calls (given t) add-number.Post
-  same-length-2 c = c .before .before .add-byte2 .kept .0 ∙ c .before .before .before .before .before .before .add-number .kept .0
-
-  returns-2 : lts.Need-returns-2 calls (given t) add-number.Post
-  returns-2 c =
-      added-as _ (sym (decimal-more _ (omega (arith, c .before .before .before .before .before .before .before .before .if1 .left))))
-      (added-then _ _ _ (c .before .before .before .before .before .before .add-number .ensures) (c .before .before .add-byte2 .ensures))
+  same-length : lts.Need-same-length calls (given t) add-number.Post
+  same-length c = ap (λ (p : Page). length (p .text)) (returns c) ∙ added-length _ _
 
 pub +add-number-spec : {M : Type 1} → statement M
 +add-number-spec =
     close μ
-    (λ t. lts.spec (calls t) (given t) add-number.Post (last-digit t) (last-byte t) (asks-nothing t) (same-length t) (returns t)
-    (falls-to-a-tenth t) (next-digit t) (next-byte t) (asks-nothing-2 t) (same-length-2 t) (returns-2 t))
+    (λ t. lts.spec (calls t) (given t) add-number.Post (falls-to-a-tenth t) (asks-nothing t) (asks-nothing-2 t) (same-length t) (returns t))
