@@ -1,9 +1,11 @@
 // The lines of the report, each added behind what the text has. Every function answers the next place of the text.
+ghost use mathlib.Core.List.{[], _++_};
 ghost use mathlib.Core.Path.{_≡_};
+ghost use Rattle.clock.specs.Clock.{moment, until};
 ghost use Rattle.finish.specs.Finish.{finishOf};
 ghost use Rattle.refusal.specs.Refusals.{numberOf, placeOf};
 ghost use Rattle.report.specs.DayReport.{refusedLine, admittedLine, segmentLine, segmentsLine, finishFields, jobWith, totalField, longestField, serverLine};
-ghost use Rattle.text.specs.Line.{bytesOf, goesOn};
+ghost use Rattle.text.specs.Line.{bytes, bytesOf, decimal, goesOn};
 ghost use Rattle.text.specs.Page.{added, page};
 use arrival::Arrival;
 use clock::Length;
@@ -18,35 +20,33 @@ pub(crate) fn refused(text: &mut [u8], next: usize, why: Refusal) -> usize
 {
     let number = refusal::number(why);
     let place = refusal::place(why) as u64;
-    let mut at = text::add_numbered(text, next, b"refused ", number);
-    at = text::add_numbered(text, at, b" ", place);
-    text::add(text, at, b"\n")
+    last_two(text, next, b"refused ", number, b" ", place)
 }
 
 pub(crate) fn admitted(text: &mut [u8], next: usize, sum: Length, frame: Length) -> usize
     ensures { λ r. ⌜ page (now (text .exit)) r ≡ added (admittedLine (sum .ticks) (frame .ticks)) (page (now (text .entry)) next) ⌝ }
 {
-    let mut at = text::add_numbered(text, next, b"admitted ", sum.ticks);
-    at = text::add_numbered(text, at, b" of ", frame.ticks);
-    text::add(text, at, b"\n")
+    last_two(text, next, b"admitted ", sum.ticks, b" of ", frame.ticks)
 }
 
 pub(crate) fn segment(text: &mut [u8], next: usize, s: Segment) -> usize
     ensures { λ r. ⌜ page (now (text .exit)) r ≡ added (segmentLine s) (page (now (text .entry)) next) ⌝ }
 {
-    let mut at = text::add_numbered(text, next, b"segment ", s.start.tick);
-    at = text::add_numbered(text, at, b" ", s.length.ticks);
-    at = text::add_numbered(text, at, b" ", s.server as u64);
-    at = text::add_numbered(text, at, b" ", s.deadline.tick);
-    text::add(text, at, b"\n")
+    let at = two(text, next, b"segment ", s.start.tick, b" ", s.length.ticks);
+    last_two(text, at, b" ", s.server as u64, b" ", s.deadline.tick)
 }
 
 pub(crate) fn segments(text: &mut [u8], next: usize, count: usize, shown: usize) -> usize
     ensures { λ r. ⌜ page (now (text .exit)) r ≡ added (segmentsLine count shown) (page (now (text .entry)) next) ⌝ }
 {
-    let mut at = text::add_numbered(text, next, b"segments ", count as u64);
-    at = text::add_numbered(text, at, b" shown ", shown as u64);
-    text::add(text, at, b"\n")
+    last_two(
+        text,
+        next,
+        b"segments ",
+        count as u64,
+        b" shown ",
+        shown as u64,
+    )
 }
 
 // The line of arrival k, whose place of the finish list holds this number.
@@ -54,8 +54,7 @@ pub(crate) fn job(text: &mut [u8], next: usize, k: usize, a: Arrival, finish: u3
     ensures { λ r. ⌜ page (now (text .exit)) r ≡ added (jobWith a k (finishOf finish)) (page (now (text .entry)) next) ⌝ }
 {
     let mut at = text::add_numbered(text, next, b"job ", k as u64);
-    at = text::add_numbered(text, at, b" ", a.server as u64);
-    at = text::add_numbered(text, at, b" ", a.moment.tick);
+    at = two(text, at, b" ", a.server as u64, b" ", a.moment.tick);
     finish_fields(text, at, a.moment, finish)
 }
 
@@ -66,13 +65,17 @@ fn finish_fields(text: &mut [u8], next: usize, came: Moment, finish: u32) -> usi
     if finish == sizes::OPEN_JOB {
         return text::add(text, next, b" open -\n");
     }
-    let moment = Moment {
-        tick: finish as u64,
-    };
-    let response = clock::until(came, moment);
-    let mut at = text::add_numbered(text, next, b" ", finish as u64);
-    at = text::add_numbered(text, at, b" ", response.ticks);
-    text::add(text, at, b"\n")
+    let finish = finish as u64;
+    last_two(text, next, b" ", finish, b" ", response(came, finish))
+}
+
+// The ticks from an arrival to its finish.
+fn response(came: Moment, finish: u64) -> u64
+    ensures { λ r. ⌜ r ≡ until came (moment finish) .ticks ⌝ }
+{
+    let finished = Moment { tick: finish };
+    let response = clock::until(came, finished);
+    response.ticks
 }
 
 pub(crate) fn server(text: &mut [u8], next: usize, i: usize, s: Summary) -> usize
@@ -80,31 +83,47 @@ pub(crate) fn server(text: &mut [u8], next: usize, i: usize, s: Summary) -> usiz
 {
     let response = s.response;
     let mut at = text::add_numbered(text, next, b"server ", i as u64);
-    at = text::add_numbered(text, at, b" arrived ", s.arrived);
-    at = text::add_numbered(text, at, b" finished ", s.finished);
-    at = text::add(text, at, b" total ");
-    at = total(text, at, response);
-    at = text::add(text, at, b" longest ");
-    at = longest(text, at, response);
-    at = text::add_numbered(text, at, b" postponed ", s.postponed);
-    at = text::add_numbered(text, at, b" interrupted ", s.interrupted);
-    text::add(text, at, b"\n")
+    at = two(text, at, b" arrived ", s.arrived, b" finished ", s.finished);
+    at = responses(text, at, response);
+    last_two(
+        text,
+        at,
+        b" postponed ",
+        s.postponed,
+        b" interrupted ",
+        s.interrupted,
+    )
 }
 
-fn total(text: &mut [u8], next: usize, response: Response) -> usize
-    ensures { λ r. ⌜ page (now (text .exit)) r ≡ added (bytesOf (totalField response)) (page (now (text .entry)) next) ⌝ }
+// All responses of a server, as their total and the longest.
+fn responses(text: &mut [u8], next: usize, response: Response) -> usize
+    ensures { λ r. ⌜ page (now (text .exit)) r ≡ added (bytes " longest " ++ bytesOf (longestField response)) (added (bytes " total " ++ bytesOf (totalField response)) (page (now (text .entry)) next)) ⌝ }
 {
     match response {
-        Response::Absent => text::add(text, next, b"-"),
-        Response::Over { total, longest: _ } => text::add_number(text, next, total.ticks),
+        Response::Absent => text::add(text, next, b" total - longest -"),
+        Response::Over { total, longest } => two(
+            text,
+            next,
+            b" total ",
+            total.ticks,
+            b" longest ",
+            longest.ticks,
+        ),
     }
 }
 
-fn longest(text: &mut [u8], next: usize, response: Response) -> usize
-    ensures { λ r. ⌜ page (now (text .exit)) r ≡ added (bytesOf (longestField response)) (page (now (text .entry)) next) ⌝ }
+// Two numbers, each behind its words.
+fn two(text: &mut [u8], next: usize, words: &[u8], n: u64, more: &[u8], m: u64) -> usize
+    ensures { λ r. ⌜ page (now (text .exit)) r ≡ added (now (more .entry) ++ decimal m) (added (now (words .entry) ++ decimal n) (page (now (text .entry)) next)) ⌝ }
 {
-    match response {
-        Response::Absent => text::add(text, next, b"-"),
-        Response::Over { total: _, longest } => text::add_number(text, next, longest.ticks),
-    }
+    let at = text::add_numbered(text, next, words, n);
+    text::add_numbered(text, at, more, m)
+}
+
+// The last two numbers of a line, each behind its words, and the line feed.
+fn last_two(text: &mut [u8], next: usize, words: &[u8], n: u64, more: &[u8], m: u64) -> usize
+    ensures { λ r. ⌜ page (now (text .exit)) r ≡ added (now (words .entry) ++ (decimal n ++ (now (more .entry) ++ (decimal m ++ goesOn [])))) (page (now (text .entry)) next) ⌝ }
+{
+    let at = two(text, next, words, n, more, m);
+    text::add_byte(text, at, b'\n')
 }

@@ -86,6 +86,10 @@ added-both a b p =
 pub added-then : (a b : List ℕ) (p : Page) {q r : Page} → q ≡ added a p → r ≡ added b q → r ≡ added (a ++ b) p
 added-then a b p first second = second ∙ ap (added b) first ∙ added-both a b p
 
+-- the same where the first comes in two parts
+pub added-two-then : (a b c : List ℕ) (p : Page) {q r : Page} → q ≡ added b (added a p) → r ≡ added c q → r ≡ added (a ++ (b ++ c)) p
+added-two-then a b c p two third = added-then a (b ++ c) p refl (added-then b c (added a p) two third)
+
 pub added-as : (p : Page) {q : Page} {a b : List ℕ} → a ≡ b → q ≡ added a p → q ≡ added b p
 added-as p same first = first ∙ ap (λ (m : List ℕ). added m p) same
 

@@ -1,7 +1,7 @@
 -- `report::lines::job` meets its promise: the number, the server and the moment, and then the rest of the line.
 use borrow.Author.Needs.{needs}
 use mathlib.Core.Path.{refl}
-use Rattle.text.specs.PageLaws.{added-then}
+use Rattle.text.specs.PageLaws.{added-then, added-two-then}
 use Rattle.report.proofs.lines.job.Statement.{statement}
 use Rattle.report.proofs.lines.job.Tie as tie
 
@@ -11,17 +11,14 @@ slice-aggregate-add-numbered c = refl
 add-numbered-requires : tie.Need-add-numbered-requires
 add-numbered-requires c κs = tt
 
-slice-aggregate-add-numbered-2 : tie.Need-slice-aggregate-add-numbered-2
-slice-aggregate-add-numbered-2 c = refl
+slice-aggregate-two : tie.Need-slice-aggregate-two
+slice-aggregate-two c = refl
 
-add-numbered-requires-2 : tie.Need-add-numbered-requires-2
-add-numbered-requires-2 c κs = tt
+slice-aggregate-two-2 : tie.Need-slice-aggregate-two-2
+slice-aggregate-two-2 c = refl
 
-slice-aggregate-add-numbered-3 : tie.Need-slice-aggregate-add-numbered-3
-slice-aggregate-add-numbered-3 c = refl
-
-add-numbered-requires-3 : tie.Need-add-numbered-requires-3
-add-numbered-requires-3 c κs = tt
+two-requires : tie.Need-two-requires
+two-requires c κs = tt
 
 finish-fields-requires : tie.Need-finish-fields-requires
 finish-fields-requires c κs = tt
@@ -32,13 +29,10 @@ same-length c = search needs
 returns : tie.Need-returns
 returns c =
     let ending = c .before .before in
-    let moment = ending .before .before .before .before in
-    let server = moment .before .before .before .before .before in
-    let number = server .before .before .before .before .before in
+    let job = ending .before .before .before .before in
+    let number = job .before .before .before .before .before .before in
     added-then _ _ _ (number .add-numbered .ensures)
-    (added-then _ _ _ (server .add-numbered2 .ensures)
-    (added-then _ _ _ (moment .add-numbered3 .ensures)
-    (ending .finish-fields .ensures)))
+    (added-two-then _ _ _ _ (job .two .ensures) (ending .finish-fields .ensures))
 
 pub job-spec : {M : Type 1} → statement M
 job-spec =
@@ -46,10 +40,9 @@ job-spec =
     (tie.spec
     slice-aggregate-add-numbered
     add-numbered-requires
-    slice-aggregate-add-numbered-2
-    add-numbered-requires-2
-    slice-aggregate-add-numbered-3
-    add-numbered-requires-3
+    slice-aggregate-two
+    slice-aggregate-two-2
+    two-requires
     finish-fields-requires
     same-length
     returns)

@@ -1,8 +1,8 @@
--- `report::lines::refused` meets its promise: number and place one behind the other, as the table gives them.
+-- `report::lines::refused` meets its promise: the number and the place are as the table gives them.
 use borrow.Author.Needs.{needs}
 use mathlib.Core.Path.{refl, ap₂}
 use Rattle.report.specs.DayReport.{refusedLine}
-use Rattle.text.specs.PageLaws.{added-as, added-then}
+use Rattle.text.specs.PageLaws.{added-as}
 use Rattle.report.proofs.lines.refused.Statement.{statement}
 use Rattle.report.proofs.lines.refused.Tie as tie
 
@@ -12,36 +12,23 @@ number-requires c κs = tt
 place-requires : tie.Need-place-requires
 place-requires c κs = tt
 
-slice-aggregate-add-numbered : tie.Need-slice-aggregate-add-numbered
-slice-aggregate-add-numbered c = refl
+slice-aggregate-last-two : tie.Need-slice-aggregate-last-two
+slice-aggregate-last-two c = refl
 
-add-numbered-requires : tie.Need-add-numbered-requires
-add-numbered-requires c κs = tt
+slice-aggregate-last-two-2 : tie.Need-slice-aggregate-last-two-2
+slice-aggregate-last-two-2 c = refl
 
-slice-aggregate-add-numbered-2 : tie.Need-slice-aggregate-add-numbered-2
-slice-aggregate-add-numbered-2 c = refl
-
-add-numbered-requires-2 : tie.Need-add-numbered-requires-2
-add-numbered-requires-2 c κs = tt
-
-slice-aggregate-add : tie.Need-slice-aggregate-add
-slice-aggregate-add c = refl
-
-add-requires : tie.Need-add-requires
-add-requires c κs = tt
+last-two-requires : tie.Need-last-two-requires
+last-two-requires c κs = tt
 
 same-length : tie.Need-same-length
 same-length c = search needs
 
 returns : tie.Need-returns
 returns c =
-    let end = c .before .before in
-    let place = end .before .before .before .before .before in
-    let number = place .before .before .before .before .before in
-    added-as _ (ap₂ refusedLine (number .before .before .before .before .number .ensures) (number .before .before .before .place .ensures))
-    (added-then _ _ _ (number .add-numbered .ensures)
-    (added-then _ _ _ (place .add-numbered2 .ensures)
-    (end .add .ensures)))
+    let line = c .before .before in
+    let place = line .before .before .before .before in
+    added-as _ (ap₂ refusedLine (place .before .number .ensures) (place .place .ensures)) (line .last-two .ensures)
 
 pub refused-spec : {M : Type 1} → statement M
 refused-spec =
@@ -49,11 +36,8 @@ refused-spec =
     (tie.spec
     number-requires
     place-requires
-    slice-aggregate-add-numbered
-    add-numbered-requires
-    slice-aggregate-add-numbered-2
-    add-numbered-requires-2
-    slice-aggregate-add
-    add-requires
+    slice-aggregate-last-two
+    slice-aggregate-last-two-2
+    last-two-requires
     same-length
     returns)

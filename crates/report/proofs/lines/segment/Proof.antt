@@ -1,69 +1,46 @@
 -- `report::lines::segment` meets its promise: its parts one behind the other are the line.
 use borrow.Author.Needs.{needs}
 use mathlib.Core.Path.{refl}
-use Rattle.text.specs.PageLaws.{added-then}
+use Rattle.text.specs.PageLaws.{added-two-then}
 use Rattle.report.proofs.lines.segment.Statement.{statement}
 use Rattle.report.proofs.lines.segment.Tie as tie
 
-slice-aggregate-add-numbered : tie.Need-slice-aggregate-add-numbered
-slice-aggregate-add-numbered c = refl
+slice-aggregate-two : tie.Need-slice-aggregate-two
+slice-aggregate-two c = refl
 
-add-numbered-requires : tie.Need-add-numbered-requires
-add-numbered-requires c κs = tt
+slice-aggregate-two-2 : tie.Need-slice-aggregate-two-2
+slice-aggregate-two-2 c = refl
 
-slice-aggregate-add-numbered-2 : tie.Need-slice-aggregate-add-numbered-2
-slice-aggregate-add-numbered-2 c = refl
+two-requires : tie.Need-two-requires
+two-requires c κs = tt
 
-add-numbered-requires-2 : tie.Need-add-numbered-requires-2
-add-numbered-requires-2 c κs = tt
+slice-aggregate-last-two : tie.Need-slice-aggregate-last-two
+slice-aggregate-last-two c = refl
 
-slice-aggregate-add-numbered-3 : tie.Need-slice-aggregate-add-numbered-3
-slice-aggregate-add-numbered-3 c = refl
+slice-aggregate-last-two-2 : tie.Need-slice-aggregate-last-two-2
+slice-aggregate-last-two-2 c = refl
 
-add-numbered-requires-3 : tie.Need-add-numbered-requires-3
-add-numbered-requires-3 c κs = tt
-
-slice-aggregate-add-numbered-4 : tie.Need-slice-aggregate-add-numbered-4
-slice-aggregate-add-numbered-4 c = refl
-
-add-numbered-requires-4 : tie.Need-add-numbered-requires-4
-add-numbered-requires-4 c κs = tt
-
-slice-aggregate-add : tie.Need-slice-aggregate-add
-slice-aggregate-add c = refl
-
-add-requires : tie.Need-add-requires
-add-requires c κs = tt
+last-two-requires : tie.Need-last-two-requires
+last-two-requires c κs = tt
 
 same-length : tie.Need-same-length
 same-length c = search needs
 
 returns : tie.Need-returns
 returns c =
-    let end = c .before .before in
-    let deadline = end .before .before .before .before .before in
-    let server = deadline .before .before .before .before .before in
-    let length = server .before .before .before .before .before in
-    let start = length .before .before .before .before .before in
-    added-then _ _ _ (start .add-numbered .ensures)
-    (added-then _ _ _ (length .add-numbered2 .ensures)
-    (added-then _ _ _ (server .add-numbered3 .ensures)
-    (added-then _ _ _ (deadline .add-numbered4 .ensures)
-    (end .add .ensures))))
+    let last = c .before .before in
+    let first = last .before .before .before .before .before .before in
+    added-two-then _ _ _ _ (first .two .ensures) (last .last-two .ensures)
 
 pub segment-spec : {M : Type 1} → statement M
 segment-spec =
     tie.close
     (tie.spec
-    slice-aggregate-add-numbered
-    add-numbered-requires
-    slice-aggregate-add-numbered-2
-    add-numbered-requires-2
-    slice-aggregate-add-numbered-3
-    add-numbered-requires-3
-    slice-aggregate-add-numbered-4
-    add-numbered-requires-4
-    slice-aggregate-add
-    add-requires
+    slice-aggregate-two
+    slice-aggregate-two-2
+    two-requires
+    slice-aggregate-last-two
+    slice-aggregate-last-two-2
+    last-two-requires
     same-length
     returns)

@@ -1,9 +1,8 @@
 -- `report::lines::server` meets its promise: its parts one behind the other are the line.
-use lib.ListN.{length}
-use mathlib.Core.Path.{refl, _∙_, ap}
+use borrow.Author.Needs.{needs}
+use mathlib.Core.Path.{refl}
 use Rattle.report.specs.DayReport.{serverLine}
-use Rattle.text.specs.Page.{Page}
-use Rattle.text.specs.PageLaws.{added-length, added-then}
+use Rattle.text.specs.PageLaws.{added-then, added-two-then}
 use Rattle.report.proofs.lines.server.Statement.{statement}
 use Rattle.report.proofs.lines.server.Tie as tie
 
@@ -13,80 +12,41 @@ slice-aggregate-add-numbered c = refl
 add-numbered-requires : tie.Need-add-numbered-requires
 add-numbered-requires c κs = tt
 
-slice-aggregate-add-numbered-2 : tie.Need-slice-aggregate-add-numbered-2
-slice-aggregate-add-numbered-2 c = refl
+slice-aggregate-two : tie.Need-slice-aggregate-two
+slice-aggregate-two c = refl
 
-add-numbered-requires-2 : tie.Need-add-numbered-requires-2
-add-numbered-requires-2 c κs = tt
+slice-aggregate-two-2 : tie.Need-slice-aggregate-two-2
+slice-aggregate-two-2 c = refl
 
-slice-aggregate-add-numbered-3 : tie.Need-slice-aggregate-add-numbered-3
-slice-aggregate-add-numbered-3 c = refl
+two-requires : tie.Need-two-requires
+two-requires c κs = tt
 
-add-numbered-requires-3 : tie.Need-add-numbered-requires-3
-add-numbered-requires-3 c κs = tt
+responses-requires : tie.Need-responses-requires
+responses-requires c κs = tt
 
-slice-aggregate-add : tie.Need-slice-aggregate-add
-slice-aggregate-add c = refl
+slice-aggregate-last-two : tie.Need-slice-aggregate-last-two
+slice-aggregate-last-two c = refl
 
-add-requires : tie.Need-add-requires
-add-requires c κs = tt
+slice-aggregate-last-two-2 : tie.Need-slice-aggregate-last-two-2
+slice-aggregate-last-two-2 c = refl
 
-total-requires : tie.Need-total-requires
-total-requires c κs = tt
+last-two-requires : tie.Need-last-two-requires
+last-two-requires c κs = tt
 
-slice-aggregate-add-2 : tie.Need-slice-aggregate-add-2
-slice-aggregate-add-2 c = refl
-
-add-requires-2 : tie.Need-add-requires-2
-add-requires-2 c κs = tt
-
-longest-requires : tie.Need-longest-requires
-longest-requires c κs = tt
-
-slice-aggregate-add-numbered-4 : tie.Need-slice-aggregate-add-numbered-4
-slice-aggregate-add-numbered-4 c = refl
-
-add-numbered-requires-4 : tie.Need-add-numbered-requires-4
-add-numbered-requires-4 c κs = tt
-
-slice-aggregate-add-numbered-5 : tie.Need-slice-aggregate-add-numbered-5
-slice-aggregate-add-numbered-5 c = refl
-
-add-numbered-requires-5 : tie.Need-add-numbered-requires-5
-add-numbered-requires-5 c κs = tt
-
-slice-aggregate-add-3 : tie.Need-slice-aggregate-add-3
-slice-aggregate-add-3 c = refl
-
-add-requires-3 : tie.Need-add-requires-3
-add-requires-3 c κs = tt
+same-length : tie.Need-same-length
+same-length c = search needs
 
 returns : tie.Need-returns
 unfolding serverLine
 returns c =
-    let end = c .before .before in
-    let interrupted = end .before .before .before .before .before in
-    let postponed = interrupted .before .before .before .before .before in
-    let longest = postponed .before .before .before .before .before in
-    let of-longest = longest .before .before .before .before in
-    let total = of-longest .before .before .before .before .before in
-    let of-total = total .before .before .before .before in
-    let finished = of-total .before .before .before .before .before in
-    let arrived = finished .before .before .before .before .before in
-    let number = arrived .before .before .before .before .before in
+    let last = c .before .before in
+    let responses = last .before .before .before .before .before .before in
+    let jobs = responses .before .before .before .before in
+    let number = jobs .before .before .before .before .before .before in
     added-then _ _ _ (number .add-numbered .ensures)
-    (added-then _ _ _ (arrived .add-numbered2 .ensures)
-    (added-then _ _ _ (finished .add-numbered3 .ensures)
-    (added-then _ _ _ (of-total .add .ensures)
-    (added-then _ _ _ (total .total .ensures)
-    (added-then _ _ _ (of-longest .add2 .ensures)
-    (added-then _ _ _ (longest .longest .ensures)
-    (added-then _ _ _ (postponed .add-numbered4 .ensures)
-    (added-then _ _ _ (interrupted .add-numbered5 .ensures)
-    (end .add3 .ensures)))))))))
-
-same-length : tie.Need-same-length
-same-length c = ap (λ (p : Page). length (p .text)) (returns c) ∙ added-length _ _
+    (added-two-then _ _ _ _ (jobs .two .ensures)
+    (added-two-then _ _ _ _ (responses .responses .ensures)
+    (last .last-two .ensures)))
 
 pub server-spec : {M : Type 1} → statement M
 server-spec =
@@ -94,21 +54,12 @@ server-spec =
     (tie.spec
     slice-aggregate-add-numbered
     add-numbered-requires
-    slice-aggregate-add-numbered-2
-    add-numbered-requires-2
-    slice-aggregate-add-numbered-3
-    add-numbered-requires-3
-    slice-aggregate-add
-    add-requires
-    total-requires
-    slice-aggregate-add-2
-    add-requires-2
-    longest-requires
-    slice-aggregate-add-numbered-4
-    add-numbered-requires-4
-    slice-aggregate-add-numbered-5
-    add-numbered-requires-5
-    slice-aggregate-add-3
-    add-requires-3
+    slice-aggregate-two
+    slice-aggregate-two-2
+    two-requires
+    responses-requires
+    slice-aggregate-last-two
+    slice-aggregate-last-two-2
+    last-two-requires
     same-length
     returns)
