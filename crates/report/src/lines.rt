@@ -1,11 +1,11 @@
 // The lines of the report, each added behind what the text has. Every function answers the next place of the text.
-ghost use mathlib.Core.List.{[], _++_};
+ghost use mathlib.Core.List.{[], _∷_, _++_};
 ghost use mathlib.Core.Path.{_≡_};
 ghost use Rattle.clock.specs.Clock.{moment, until};
 ghost use Rattle.finish.specs.Finish.{finishOf};
 ghost use Rattle.refusal.specs.Refusals.{numberOf, placeOf};
 ghost use Rattle.report.specs.DayReport.{refusedLine, admittedLine, segmentLine, segmentsLine, finishFields, jobWith, totalField, longestField, serverLine};
-ghost use Rattle.text.specs.Line.{bytes, bytesOf, decimal, goesOn};
+ghost use Rattle.text.specs.Line.{bytes, bytesOf, decimal, goesOn, number};
 ghost use Rattle.text.specs.Page.{added, page};
 use arrival::Arrival;
 use clock::Length;
@@ -32,8 +32,9 @@ pub(crate) fn admitted(text: &mut [u8], next: usize, sum: Length, frame: Length)
 pub(crate) fn segment(text: &mut [u8], next: usize, s: Segment) -> usize
     ensures { λ r. ⌜ page (now (text .exit)) r ≡ added (segmentLine s) (page (now (text .entry)) next) ⌝ }
 {
-    let at = two(text, next, b"segment ", s.start.tick, b" ", s.length.ticks);
-    last_two(text, at, b" ", s.server as u64, b" ", s.deadline.tick)
+    let mut at = text::add(text, next, b"segment");
+    at = pair(text, at, s.start.tick, s.length.ticks);
+    last_pair(text, at, s.server as u64, s.deadline.tick)
 }
 
 pub(crate) fn segments(text: &mut [u8], next: usize, count: usize, shown: usize) -> usize
@@ -54,7 +55,7 @@ pub(crate) fn job(text: &mut [u8], next: usize, k: usize, a: Arrival, finish: u3
     ensures { λ r. ⌜ page (now (text .exit)) r ≡ added (jobWith a k (finishOf finish)) (page (now (text .entry)) next) ⌝ }
 {
     let mut at = text::add_numbered(text, next, b"job ", k as u64);
-    at = two(text, at, b" ", a.server as u64, b" ", a.moment.tick);
+    at = pair(text, at, a.server as u64, a.moment.tick);
     finish_fields(text, at, a.moment, finish)
 }
 
@@ -66,7 +67,7 @@ fn finish_fields(text: &mut [u8], next: usize, came: Moment, finish: u32) -> usi
         return text::add(text, next, b" open -\n");
     }
     let finish = finish as u64;
-    last_two(text, next, b" ", finish, b" ", response(came, finish))
+    last_pair(text, next, finish, response(came, finish))
 }
 
 // The ticks from an arrival to its finish.
@@ -110,6 +111,20 @@ fn responses(text: &mut [u8], next: usize, response: Response) -> usize
             longest.ticks,
         ),
     }
+}
+
+// Two numbers, with a space before each.
+fn pair(text: &mut [u8], next: usize, n: u64, m: u64) -> usize
+    ensures { λ r. ⌜ page (now (text .exit)) r ≡ added (bytes " " ++ decimal m) (added (bytes " " ++ decimal n) (page (now (text .entry)) next)) ⌝ }
+{
+    two(text, next, b" ", n, b" ", m)
+}
+
+// The last two numbers of a line, with a space before each, and the line feed.
+fn last_pair(text: &mut [u8], next: usize, n: u64, m: u64) -> usize
+    ensures { λ r. ⌜ page (now (text .exit)) r ≡ added (goesOn (number n ∷ number m ∷ [])) (page (now (text .entry)) next) ⌝ }
+{
+    last_two(text, next, b" ", n, b" ", m)
 }
 
 // Two numbers, each behind its words.

@@ -26,17 +26,11 @@ returns c =
     let came = test .before .before .args .came in
     added-as _ (ap (λ (f : Finish). goesOn (finishFields came f)) (sym (finish-of-open _ (test .if1 .taken)))) (c .before .before .add .ensures)
 
-slice-aggregate-last-two : tie.Need-slice-aggregate-last-two
-slice-aggregate-last-two c = refl
-
-slice-aggregate-last-two-2 : tie.Need-slice-aggregate-last-two-2
-slice-aggregate-last-two-2 c = refl
-
 response-requires : tie.Need-response-requires
 response-requires c κs = tt
 
-last-two-requires : tie.Need-last-two-requires
-last-two-requires c κs = tt
+last-pair-requires : tie.Need-last-pair-requires
+last-pair-requires c κs = tt
 
 same-length-2 : tie.Need-same-length-2
 same-length-2 c = search needs
@@ -45,12 +39,12 @@ returns-2 : tie.Need-returns-2
 returns-2 c =
     let line = c .before .before in
     let response = line .before in
-    let test = response .before .before .before .before in
+    let test = response .before .before in
     let args = test .before .before .args in
     added-as _
     (ap (λ (n : ℕ). goesOn (number (args .finish) ∷ number n ∷ [])) (response .response .ensures)
     ∙ ap (λ (f : Finish). goesOn (finishFields (args .came) f)) (sym (finish-of-at _ (test .if1 .left))))
-    (line .last-two .ensures)
+    (line .last-pair .ensures)
 
 pub finish-fields-spec : {M : Type 1} → statement M
 finish-fields-spec =
@@ -60,9 +54,7 @@ finish-fields-spec =
     add-requires
     same-length
     returns
-    slice-aggregate-last-two
-    slice-aggregate-last-two-2
     response-requires
-    last-two-requires
+    last-pair-requires
     same-length-2
     returns-2)

@@ -11,14 +11,8 @@ slice-aggregate-add-numbered c = refl
 add-numbered-requires : tie.Need-add-numbered-requires
 add-numbered-requires c κs = tt
 
-slice-aggregate-two : tie.Need-slice-aggregate-two
-slice-aggregate-two c = refl
-
-slice-aggregate-two-2 : tie.Need-slice-aggregate-two-2
-slice-aggregate-two-2 c = refl
-
-two-requires : tie.Need-two-requires
-two-requires c κs = tt
+pair-requires : tie.Need-pair-requires
+pair-requires c κs = tt
 
 finish-fields-requires : tie.Need-finish-fields-requires
 finish-fields-requires c κs = tt
@@ -29,10 +23,10 @@ same-length c = search needs
 returns : tie.Need-returns
 returns c =
     let ending = c .before .before in
-    let job = ending .before .before .before .before in
-    let number = job .before .before .before .before .before .before in
+    let pair = ending .before .before .before .before in
+    let number = pair .before .before .before .before in
     added-then _ _ _ (number .add-numbered .ensures)
-    (added-two-then _ _ _ _ (job .two .ensures) (ending .finish-fields .ensures))
+    (added-two-then _ _ _ _ (pair .pair .ensures) (ending .finish-fields .ensures))
 
 pub job-spec : {M : Type 1} → statement M
 job-spec =
@@ -40,9 +34,7 @@ job-spec =
     (tie.spec
     slice-aggregate-add-numbered
     add-numbered-requires
-    slice-aggregate-two
-    slice-aggregate-two-2
-    two-requires
+    pair-requires
     finish-fields-requires
     same-length
     returns)

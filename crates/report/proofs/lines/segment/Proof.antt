@@ -1,27 +1,21 @@
 -- `report::lines::segment` meets its promise: its parts one behind the other are the line.
 use borrow.Author.Needs.{needs}
 use mathlib.Core.Path.{refl}
-use Rattle.text.specs.PageLaws.{added-two-then}
+use Rattle.text.specs.PageLaws.{added-then, added-two-then}
 use Rattle.report.proofs.lines.segment.Statement.{statement}
 use Rattle.report.proofs.lines.segment.Tie as tie
 
-slice-aggregate-two : tie.Need-slice-aggregate-two
-slice-aggregate-two c = refl
+slice-aggregate-add : tie.Need-slice-aggregate-add
+slice-aggregate-add c = refl
 
-slice-aggregate-two-2 : tie.Need-slice-aggregate-two-2
-slice-aggregate-two-2 c = refl
+add-requires : tie.Need-add-requires
+add-requires c κs = tt
 
-two-requires : tie.Need-two-requires
-two-requires c κs = tt
+pair-requires : tie.Need-pair-requires
+pair-requires c κs = tt
 
-slice-aggregate-last-two : tie.Need-slice-aggregate-last-two
-slice-aggregate-last-two c = refl
-
-slice-aggregate-last-two-2 : tie.Need-slice-aggregate-last-two-2
-slice-aggregate-last-two-2 c = refl
-
-last-two-requires : tie.Need-last-two-requires
-last-two-requires c κs = tt
+last-pair-requires : tie.Need-last-pair-requires
+last-pair-requires c κs = tt
 
 same-length : tie.Need-same-length
 same-length c = search needs
@@ -29,18 +23,18 @@ same-length c = search needs
 returns : tie.Need-returns
 returns c =
     let last = c .before .before in
-    let first = last .before .before .before .before .before .before in
-    added-two-then _ _ _ _ (first .two .ensures) (last .last-two .ensures)
+    let first = last .before .before .before .before in
+    let word = first .before .before .before .before in
+    added-then _ _ _ (word .add .ensures)
+    (added-two-then _ _ _ _ (first .pair .ensures) (last .last-pair .ensures))
 
 pub segment-spec : {M : Type 1} → statement M
 segment-spec =
     tie.close
     (tie.spec
-    slice-aggregate-two
-    slice-aggregate-two-2
-    two-requires
-    slice-aggregate-last-two
-    slice-aggregate-last-two-2
-    last-two-requires
+    slice-aggregate-add
+    add-requires
+    pair-requires
+    last-pair-requires
     same-length
     returns)
