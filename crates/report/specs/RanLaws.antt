@@ -1,6 +1,5 @@
--- What a run's answer tells of the report.
+-- What a run has left tells of the report.
 use Prim.Native.Nat.{ℕ}
-use lib.ListN.{length}
 use mathlib.Core.List.{List}
 use mathlib.Core.Path.{_≡_, sym, _∙_, ap}
 use Rattle.books.specs.Accepted.{judged-accepted}
@@ -9,20 +8,20 @@ use Rattle.refusal.specs.declared.Refusal.{Refusal}
 use Rattle.refusal.specs.declared.Verdict.the-variants.{Accepted, Refused}
 use Rattle.refusal.specs.Refusals.{Said, accepted, numberOf, onPaper, placeOf}
 use Rattle.run.specs.declared.Ran.{Ran}
-use Rattle.run.specs.Outcome.{Outcome, outcome, accepting, says}
+use Rattle.run.specs.Outcome.{Outcome, accepting, says}
 use Rattle.run.specs.OutcomeLaws.{outcome-verdict, ran-accepting}
-use Rattle.sizes.specs.Sizes.{mostArrivals, traceNumbers}
+use Rattle.sizes.specs.Sizes.{mostArrivals}
 use Rattle.workfile.specs.Work.{work}
 use Rattle.report.specs.DayReport.{refusedLine, acceptedReport, reportOf, dayReport}
-use Rattle.report.specs.Told.{Told, traceOf}
+use Rattle.report.specs.Told.{Left, Told, traceOf}
 
--- Of a run beside lists as long as the report lends them.
-module _ (file list ends after ended : List ℕ) (r : Ran) (long : length list ≡ traceNumbers) (places : length ends ≡ mostArrivals)
-    (ran : says r after ended ≡ outcome file list ends) where
-  -- its verdict is the file's
+module _ {file after ended : List ℕ} {r : Ran} (left : Left file after ended r) where
+  -- the verdict is the file's
   verdict-is : judged file mostArrivals ≡ onPaper (r .verdict)
   verdict-is =
-      ap (judged file) (sym places) ∙ sym (outcome-verdict file list ends) ∙ sym (ap (λ (o : Outcome). o .verdict) ran)
+      ap (judged file) (sym (left .ends-long))
+      ∙ sym (outcome-verdict file (left .list) (left .ends))
+      ∙ sym (ap (λ (o : Outcome). o .verdict) (left .ran-is))
 
   pub report-refused : (why : Refusal) → r .verdict ≡ Refused why → dayReport file ≡ refusedLine (numberOf why) (placeOf why)
   unfolding dayReport
@@ -36,17 +35,17 @@ module _ (file list ends after ended : List ℕ) (r : Ran) (long : length list �
     unfolding dayReport
     report-accepted = ap (λ (s : Said (Unit {0})). reportOf s (work file)) fine
 
-    gives : says r after ended ≡ accepting (work file) list ends
-    gives = ran-accepting file list ends after ended r ran v
+    gives : says r after ended ≡ accepting (work file) (left .list) (left .ends)
+    gives = ran-accepting file (left .list) (left .ends) after ended r (left .ran-is) v
 
     pub ran-told : Told file after ended (r .segments) (r .summaries)
     ran-told =
         record {
           accepted = judged-accepted file mostArrivals fine;
-          listBefore = list;
-          endsBefore = ends;
-          list-long = long;
-          ends-long = places;
+          listBefore = left .list;
+          endsBefore = left .ends;
+          list-long = left .list-long;
+          ends-long = left .ends-long;
           list-is = ap (λ (o : Outcome). o .traceList) gives;
           ends-is = ap (λ (o : Outcome). o .finishList) gives;
           segments-is = ap (λ (o : Outcome). o .segments) gives;

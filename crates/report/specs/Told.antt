@@ -7,6 +7,8 @@ use Rattle.books.specs.Accepted.{Accepted}
 use Rattle.finish.specs.Finish.{finishOf, finishList}
 use Rattle.moments.specs.Moments.{history}
 use Rattle.report.specs.DayReport.{jobWith}
+use Rattle.run.specs.declared.Ran.{Ran}
+use Rattle.run.specs.Outcome.{outcome, says}
 use Rattle.sizes.specs.Sizes.{mostArrivals, traceNumbers}
 use Rattle.summary.specs.declared.Summary.{Summary}
 use Rattle.summary.specs.Summary.{finishes, summaries}
@@ -22,6 +24,14 @@ jobIn w ends k = jobWith (w .arrival k) k (finishOf (getD ends k 0))
 -- the whole trace of a work
 abbrev pub traceOf : Work → List Segment
 traceOf w = trace (history w) (w .horizon .tick)
+
+-- What a run has left beside lists as long as the report lends them.
+pub record Left (file after ended : List ℕ) (ran : Ran) : Type 0 where
+  pub list : List ℕ
+  pub ends : List ℕ
+  pub list-long : length list ≡ traceNumbers
+  pub ends-long : length ends ≡ mostArrivals
+  pub ran-is : says ran after ended ≡ outcome file list ends
 
 -- What the report has of a file that was accepted, when the run is over: its lists, the count and the records.
 pub record Told (file list ends : List ℕ) (segments : ℕ) (records : List Summary) : Type 0 where
