@@ -1,3 +1,4 @@
+pub mod Lending
 pub mod OneOutcome
 pub mod TwoForms
 mod Walk

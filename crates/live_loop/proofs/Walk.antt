@@ -37,15 +37,9 @@ use Rattle.dispatcher.specs.declared.Dispatcher.{Dispatcher}
 use Rattle.dispatcher.proofs.Dispatcher as D
 use Rattle.dispatcher.proofs.Dispatcher.Laws as D′
 use Rattle.walks.specs.Steps.{ensured-tells}
+use Rattle.live_loop.proofs.Lending.{val as dVal, vals as dVals}
 
--- A dispatcher's machine value, and that it has its type.
-
-abbrev dVal : Dispatcher → Val
-dVal = LL.val D.the-type D′.the-laws
-
-abbrev pub dVals : Dispatcher → List Val
-dVals d = dVal d ∷ []
-
+-- that a machine value has its type, and that a dispatcher's has
 abbrev Good : Ty → Val → Type 0
 Good τ v = Holds (hasTy τ v) × WT v
 

@@ -1,3 +1,4 @@
 pub mod Locals
 pub mod OneOutcome
 pub mod Steps
+pub mod Turns

@@ -42,7 +42,8 @@ use Rattle.dispatcher.specs.declared.Arrived.{Arrived}
 use Rattle.dispatcher.specs.declared.Dispatcher.{Dispatcher}
 use Rattle.refusal.proofs.Verdict as R
 use Rattle.walks.specs.Steps.{both-said, says-both}
-use Rattle.live_loop.proofs.Walk.{dVals, Back, Known, moves, asks, tells, hands-back}
+use Rattle.live_loop.proofs.Lending.{vals as dVals}
+use Rattle.live_loop.proofs.Walk.{Back, Known, moves, asks, tells, hands-back}
 use Rattle.live_loop.proofs.arrival as lent
 use Rattle.live_loop.proofs.arrival.Code as code
 use Rattle.live_loop.specs.Lent.{ArrivalHands}

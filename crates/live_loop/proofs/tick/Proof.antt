@@ -37,7 +37,8 @@ use Rattle.dispatcher.specs.Within.{Within}
 use Rattle.dispatcher.specs.declared.Dispatcher.{Dispatcher}
 use Rattle.dispatcher.specs.declared.Ticked.{Ticked}
 use Rattle.walks.specs.Steps.{both-said, says-both}
-use Rattle.live_loop.proofs.Walk.{dVals, Back, Known, moves, asks, tells, hands-back}
+use Rattle.live_loop.proofs.Lending.{vals as dVals}
+use Rattle.live_loop.proofs.Walk.{Back, Known, moves, asks, tells, hands-back}
 use Rattle.live_loop.proofs.tick as lent
 use Rattle.live_loop.proofs.tick.Code as code
 use Rattle.live_loop.specs.Lent.{TickHands}

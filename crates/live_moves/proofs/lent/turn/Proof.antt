@@ -69,7 +69,7 @@ use Rattle.walks.specs.Locals.{Blocks, placed, room, cell, frees-each, alloc-al
 use Rattle.live_moves.specs.declared.script.Move.{Move}
 use Rattle.live_moves.specs.declared.script.Move.the-variants.{Tick, Arrival}
 use Rattle.live_moves.specs.Played.{movedBy}
-use Rattle.live_moves.proofs.Lending.{val as d-val, vals as d-vals}
+use Rattle.live_loop.proofs.Lending.{val as d-val, vals as d-vals}
 use Rattle.live_moves.proofs.script.Move as Mv
 use Rattle.live_moves.proofs.script.Move.Laws as Mv′
 use Rattle.live_moves.proofs.say.arrival as say-arrival
