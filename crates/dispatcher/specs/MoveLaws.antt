@@ -1,5 +1,5 @@
 -- The moves case by case, and that every move keeps the dispatcher within its ranges.
-use Prim.Native.Nat.{ℕ, _+_, _-_, _≤_, _<_}
+use Prim.Native.Nat.{ℕ, _+_, _≤_, _<_}
 use borrow.Author.Tests.{eqb-false, ltb-true, ltb-false, eq-eqb, ne-eqb, lt-ltb, le-ltb}
 use lib.Dec.{eqb, ltb}
 use lib.ListN.{length, length-set, getD}
@@ -13,14 +13,13 @@ use Rattle.arrival.specs.ArrivalLaws.{sound}
 use Rattle.clock.specs.declared.Length.{Length}
 use Rattle.server.specs.declared.Server.{Server}
 use Rattle.refusal.specs.Refusals.{gave, accepted}
-use Rattle.server.specs.MoveLaws.{served-last, served-more}
-use Rattle.server.specs.Moves.{arrived, oneTickLess, postponed, served}
+use Rattle.server.specs.Moves.{arrived, served}
 use Rattle.server.specs.RangeLaws.{ranged-later, arrived-ranged, served-ranged}
 use Rattle.server.specs.Ranges.{Ranged}
 use Rattle.server.specs.Server.{blank, idle}
 use Rattle.sizes.specs.Sizes.{clockEnd, mostWaiting}
 use Rattle.dispatcher.specs.declared.Dispatcher.{Dispatcher}
-use Rattle.dispatcher.specs.Moves.{Moved, refusing, withServer, oneLater, tooMuchWork, arrival, idled, ranOne, ran, tick}
+use Rattle.dispatcher.specs.Moves.{Moved, refusing, withServer, oneLater, tooMuchWork, arrival, idled, ran, tick}
 use Rattle.dispatcher.specs.Pick.{serverAt, picked}
 use Rattle.dispatcher.specs.PickLaws.{picked-earliest}
 use Rattle.dispatcher.specs.Within.{Within}
@@ -55,25 +54,6 @@ module _ (d : Dispatcher) where
       → tick d ≡ record { answer = gave idled; dispatcher = oneLater d }
   unfolding tick
   tick-idle h p = rw (ne-eqb _ _ h, le-ltb _ _ p)
-
-  -- the last tick of a budget postpones, and no other does
-  pub ran-last : (i : ℕ) → serverAt d i .remaining .ticks - 1 ≡ 0
-      → ran d i
-      ≡ record {
-        answer = gave (ranOne i (serverAt d i .deadline) true);
-        dispatcher = oneLater (withServer d i (postponed (oneTickLess (serverAt d i))));
-      }
-  unfolding ran
-  ran-last i h = rw (served-last (serverAt d i) h, eq-eqb _ _ h)
-
-  pub ran-more : (i : ℕ) → (serverAt d i .remaining .ticks - 1 ≡ 0 → ⊥)
-      → ran d i
-      ≡ record {
-        answer = gave (ranOne i (serverAt d i .deadline) false);
-        dispatcher = oneLater (withServer d i (oneTickLess (serverAt d i)));
-      }
-  unfolding ran
-  ran-more i h = rw (served-more (serverAt d i) h, ne-eqb _ _ h)
 
 -- Every move keeps the ranges.
 

@@ -2,6 +2,8 @@
 // A move takes the dispatcher by value and hands it back. Its one premise, `Within`, is ranges of the dispatcher's numbers: every
 // opening hands out a dispatcher within them and every move keeps it there, so that a caller has nothing to check.
 mod picking;
+mod places;
+mod refilling;
 mod serving;
 mod taking;
 
@@ -10,7 +12,7 @@ ghost use Prim.Native.Nat.{_<_};
 ghost use mathlib.Core.Bool.{false};
 ghost use Rattle.server.specs.Server.{idle};
 ghost use Rattle.sizes.specs.Sizes.{clockEnd};
-ghost use Rattle.dispatcher.specs.Moves.{arrivalSays, arrival, tickSays, tick, ran};
+ghost use Rattle.dispatcher.specs.Moves.{oneLater, arrivalSays, arrival, turnOf, tickSays, tick, ran};
 ghost use Rattle.dispatcher.specs.Pick.{serverAt};
 ghost use Rattle.dispatcher.specs.Within.{Within};
 use clock::Length;
@@ -55,24 +57,20 @@ pub fn arrival(d: Dispatcher, server: usize, cost: Length) -> Arrived
     ensures { λ r. ⌜ arrivalSays r ≡ arrival d server cost ⌝ }
     ensures { λ r. ⌜ Within (r .dispatcher) ⌝ }
 {
-    let count = d.count;
-    let now = d.clock;
-    let ticks = cost.ticks;
-    if arrival::is_faulty(count, server, cost) {
+    if arrival::is_faulty(d.count, server, cost) {
         return Arrived {
             answer: Verdict::Refused(Refusal::FaultyArrival(0)),
             dispatcher: d,
         };
     }
-    let s = d.servers[server];
-    if sizes::MOST_WAITING - s.waiting.ticks < ticks {
+    let s = places::server_at(d, server);
+    if sizes::MOST_WAITING - s.waiting.ticks < cost.ticks {
         return Arrived {
             answer: Verdict::Refused(Refusal::WaitingWork),
             dispatcher: d,
         };
     }
-    let mut taken = d;
-    taken.servers[server] = taking::take(s, now, cost);
+    let taken = places::with_server(d, server, taking::take(s, d.clock, cost));
     Arrived {
         answer: Verdict::Accepted,
         dispatcher: taken,
@@ -85,25 +83,17 @@ pub fn tick(d: Dispatcher) -> Ticked
     ensures { λ r. ⌜ tickSays r ≡ tick d ⌝ }
     ensures { λ r. ⌜ Within (r .dispatcher) ⌝ }
 {
-    let count = d.count;
-    let now = d.clock;
-    let t = now.tick;
-    if t == sizes::CLOCK_END {
+    if d.clock.tick == sizes::CLOCK_END {
         return Ticked {
             answer: TickAnswer::Refused(Refusal::ClockEnd),
             dispatcher: d,
         };
     }
     let i = picking::pick(d);
-    if i < count {
+    if i < d.count {
         return run(d, i);
     }
-    let mut idled = d;
-    idled.clock = clock::later(now, Length { ticks: 1 });
-    Ticked {
-        answer: TickAnswer::Idle,
-        dispatcher: idled,
-    }
+    pass(d, TickAnswer::Idle)
 }
 
 // The tick as server i's.
@@ -114,30 +104,27 @@ fn run(d: Dispatcher, i: usize) -> Ticked
     requires { ⌜ idle (serverAt d i) ≡ false ⌝ }
     ensures { λ r. ⌜ tickSays r ≡ ran d i ⌝ }
 {
-    let now = d.clock;
-    let s = d.servers[i];
+    let s = places::server_at(d, i);
     let deadline = s.deadline;
-    let less = serving::one_tick_less(s);
+    let answer = TickAnswer::Ran {
+        server: i,
+        deadline,
+        postponed: s.remaining.ticks == 1,
+    };
+    let served = places::with_server(d, i, serving::serve(s));
+    pass(served, answer)
+}
+
+// Step 4 of a moment: its clock goes on, and the tick is answered.
+fn pass(d: Dispatcher, answer: TickAnswer) -> Ticked
+    requires { ⌜ d .clock .tick < clockEnd ⌝ }
+    ensures { λ r. ⌜ tickSays r ≡ record { answer = turnOf answer; dispatcher = oneLater d } ⌝ }
+{
+    let later = clock::later(d.clock, Length { ticks: 1 });
     let mut next = d;
-    next.clock = clock::later(now, Length { ticks: 1 });
-    if less.remaining.ticks == 0 {
-        next.servers[i] = serving::postpone(less);
-        return Ticked {
-            answer: TickAnswer::Ran {
-                server: i,
-                deadline,
-                postponed: true,
-            },
-            dispatcher: next,
-        };
-    }
-    next.servers[i] = less;
+    next.clock = later;
     Ticked {
-        answer: TickAnswer::Ran {
-            server: i,
-            deadline,
-            postponed: false,
-        },
+        answer,
         dispatcher: next,
     }
 }

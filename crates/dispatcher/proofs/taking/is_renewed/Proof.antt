@@ -16,12 +16,12 @@ until-requires c κs = search needs
 
 mul-result : tie.Need-mul-result
 mul-result c =
-    let pre = c .before .before .before .before .before .before .before .pre in
+    let pre = c .before .before .before .before .before .before .pre in
     rw (c .before .before .until .ensures) (omega (arith, ahead-fits (pre .0) (pre .1)))
 
 mul-result-2 : tie.Need-mul-result-2
 mul-result-2 c =
-    let pre = c .before .before .before .before .before .before .before .before .pre in
+    let pre = c .before .before .before .before .before .before .before .pre in
     omega (arith, remaining-fits (pre .0) (pre .1))
 
 returns-2 : tie.Need-returns-2

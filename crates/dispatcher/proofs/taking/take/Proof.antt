@@ -1,64 +1,41 @@
--- `dispatcher::taking::take` meets its promise: its three ways are the three laws of an arrival, busy, renewed and kept.
+-- `dispatcher::taking::take` meets its promise: it gives the work to the server once that is awake, and waking leaves w as it was.
 use Prim.Native.Nat.{_+_}
 use borrow.Author.Needs.{needs}
-use mathlib.Core.Path.{sym, _∙_, ap}
+use mathlib.Core.Bool.{Bool, true, false, cond}
+use mathlib.Core.Path.{_≡_, refl, _∙_, ap}
+use Rattle.clock.specs.declared.Length.{Length}
+use Rattle.clock.specs.declared.Moment.{Moment}
 use Rattle.clock.specs.Clock.{ticks}
 use Rattle.server.specs.declared.Server.{Server}
-use Rattle.server.specs.MoveLaws.{arrived-busy, arrived-renewed, arrived-kept}
-use Rattle.server.specs.Moves.{withWaiting}
+use Rattle.server.specs.Moves.{renews, renewed, woken, withWaiting, withWork, arrived}
+use Rattle.server.specs.Server.{idle}
 use Rattle.dispatcher.proofs.taking.take.Statement.{statement}
 use Rattle.dispatcher.proofs.taking.take.Tie as tie
+
+-- the server with so much more work than s has
+abbrev withMore : Server → Length → Server → Server
+withMore s cost awake = withWaiting awake (ticks (s .waiting .ticks + cost .ticks))
+
+more-than-before : (s : Server) (t : Moment) (cost : Length) → withMore s cost (cond (idle s) (woken s t) s) ≡ arrived s t cost
+unfolding arrived
+more-than-before s t cost = go (idle s) (renews s t)
+  where
+    go : (i k : Bool)
+        → withMore s cost (cond i (cond k (renewed s t) s) s) ≡ withWork (cond i (cond k (renewed s t) s) s) cost
+    go true true = refl
+    go true false = refl
+    go false k = refl
 
 add-waiting : tie.Need-add-t6
 add-waiting c = search needs
 
-renew-requires : tie.Need-renew-requires
-renew-requires c κs = search needs
-
-with-waiting-requires : tie.Need-with-waiting-requires
-with-waiting-requires c κs = search needs
+wake-requires : tie.Need-wake-requires
+wake-requires c κs = search needs
 
 returns : tie.Need-returns
-returns c = c .with-waiting .ensures ∙ sym (arrived-busy _ _ _ (c .before .if1 .taken))
-
-is-renewed-requires : tie.Need-is-renewed-requires
-is-renewed-requires c κs = search needs
-
-with-waiting-requires-2 : tie.Need-with-waiting-requires-2
-with-waiting-requires-2 c κs = search needs
-
-returns-2 : tie.Need-returns-2
-returns-2 c =
-    let given = c .before .before .before .before .before .before .before .before .args in
-    c .with-waiting2 .ensures
-    ∙ ap (λ (s : Server). withWaiting s (ticks (given .s .waiting .ticks + given .cost .ticks)))
-    (c .before .before .before .before .before .renew .ensures)
-    ∙ sym
-    (arrived-renewed _ _ _
-    (c .before .before .before .if1 .left)
-    (sym (c .before .before .is-renewed .ensures) ∙ c .before .if2 .taken))
-
-with-waiting-requires-3 : tie.Need-with-waiting-requires-3
-with-waiting-requires-3 c κs = search needs
-
-returns-3 : tie.Need-returns-3
-returns-3 c =
-    c .with-waiting3 .ensures
-    ∙ sym
-    (arrived-kept _ _ _
-    (c .before .before .before .if1 .left)
-    (sym (c .before .before .is-renewed .ensures) ∙ c .before .if2 .left))
+returns c =
+    let given = c .before .before .before .args in
+    ap (withMore (given .s) (given .cost)) (c .wake .ensures) ∙ more-than-before _ _ _
 
 pub take-spec : {M : Type 1} → statement M
-take-spec =
-    tie.close
-    (tie.spec
-    add-waiting
-    renew-requires
-    with-waiting-requires
-    returns
-    is-renewed-requires
-    with-waiting-requires-2
-    returns-2
-    with-waiting-requires-3
-    returns-3)
+take-spec = tie.close (tie.spec add-waiting wake-requires returns)
