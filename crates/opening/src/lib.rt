@@ -28,39 +28,26 @@ pub fn open_table(table: &[u64], frame: Length) -> Opened
     ensures { λ r. ⌜ openingSays r ≡ opening (now (table .entry)) frame ⌝ }
     ensures { λ r. ⌜ Within (r .dispatcher) ⌝ }
 {
-    let verdict = judge(table, frame);
-    match verdict {
-        Verdict::Accepted => Opened {
-            answer: Verdict::Accepted,
-            dispatcher: start(table, frame),
-        },
-        Verdict::Refused(why) => Opened {
-            answer: Verdict::Refused(why),
-            dispatcher: no_servers(),
-        },
-    }
+    let answer = judge(table, frame);
+    let dispatcher = match answer {
+        Verdict::Accepted => start(table, frame),
+        Verdict::Refused(_) => no_servers(),
+    };
+    Opened { answer, dispatcher }
 }
 
-// 2, then admission.
+// 2, then 4 at the first faulty server, then 5.
 fn judge(table: &[u64], frame: Length) -> Verdict
     ensures { λ r. ⌜ onPaper r ≡ judged (now (table .entry)) frame ⌝ }
 {
     if is_out_of_range(table.len(), frame) {
         return Verdict::Refused(Refusal::Sizes);
     }
-    admit(table, frame)
-}
-
-// 4 at the first faulty server, then 5.
-fn admit(table: &[u64], frame: Length) -> Verdict
-    requires { ⌜ InRange (length (now table)) frame ⌝ }
-    ensures { λ r. ⌜ onPaper r ≡ admission frame (listed (now (table .entry))) ⌝ }
-{
     let count = table.len() / 2;
     let mut sum = 0;
     let mut k = 0;
     while k < count {
-        let found = share_at(table, k, frame);
+        let found = booking::share_of(frame, booking_at(table, k));
         if found.faulty {
             return Verdict::Refused(Refusal::FaultyServer(k));
         }
@@ -71,14 +58,6 @@ fn admit(table: &[u64], frame: Length) -> Verdict
         return Verdict::Refused(Refusal::Shares);
     }
     Verdict::Accepted
-}
-
-// The share of the k-th pair.
-fn share_at(table: &[u64], k: usize, frame: Length) -> Share
-    requires { ⌜ 2 * k + 1 < length (now table) ⌝ }
-    ensures { λ r. ⌜ r ≡ shareOf frame (listed (now (table .entry)) .booking k) ⌝ }
-{
-    booking::share_of(frame, booking_at(table, k))
 }
 
 // Whether the frame, the count of numbers or the count of servers is out of range.

@@ -1,4 +1,4 @@
--- `opening::open_table` meets its promise: the verdict is the judgement, and each of its two cases hands back its dispatcher.
+-- `opening::open_table` meets its promise: the answer is the judgement, and each of its two cases hands back its dispatcher.
 use borrow.Author.Needs.{needs}
 use mathlib.Core.Path.{sym, _∙_, ap}
 use Rattle.dispatcher.specs.MoveLaws.{and-within}
@@ -17,34 +17,25 @@ start-requires : tie.Need-start-requires
 start-requires c κs =
     accepted-in-range _ _ (sym (c .before .before .judge .ensures) ∙ ap onPaper (c .enum-told .given .1)) .few
 
-enum-known-verdict : tie.Need-enum-known-verdict
-enum-known-verdict c = search needs
+enum-told-2 : tie.Need-enum-told-2
+enum-told-2 c = search needs
 
 no-servers-requires : tie.Need-no-servers-requires
 no-servers-requires c κs = search needs
 
 returns : tie.Need-returns
 returns c =
+    let told = ap onPaper (c .before .enum-told .given .1) in
     and-within (opening-within _ _)
-    (rw (c .start .ensures)
-    (sym (opening-accepted _ _ (sym (c .before .before .before .judge .ensures) ∙ ap onPaper (c .before .enum-told .given .1)))))
+    (rw (told, c .start .ensures) (sym (opening-accepted _ _ (sym (c .before .before .before .judge .ensures) ∙ told))))
 
 returns-2 : tie.Need-returns-2
 returns-2 c =
+    let told = ap onPaper (c .before .enum-told2 .given .1) in
     and-within (opening-within _ _)
-    (rw (c .no-servers .ensures)
-    (sym
-    (opening-refused _ _ _ _
-    (sym (c .before .before .before .before .judge .ensures) ∙ ap onPaper (c .before .before .verdict .given .1)))))
+    (rw (told, c .no-servers .ensures) (sym (opening-refused _ _ _ _ (sym (c .before .before .before .judge .ensures) ∙ told))))
 
 pub open-table-spec : {M : Type 1} → statement M
 open-table-spec =
     tie.close
-    (tie.spec
-    judge-requires
-    enum-told
-    start-requires
-    enum-known-verdict
-    no-servers-requires
-    returns
-    returns-2)
+    (tie.spec judge-requires enum-told start-requires enum-told-2 no-servers-requires returns returns-2)
