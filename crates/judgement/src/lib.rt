@@ -3,14 +3,14 @@ ghost use mathlib.Core.Path.{_≡_};
 ghost use Rattle.booking.specs.Admission.{admission};
 ghost use Rattle.refusal.specs.Refusals.{onPaper};
 ghost use Rattle.workfile.specs.Work.{workUnder};
-ghost use Rattle.judgement.specs.Judgement.{lengthOutOfRange, sizesOutOfRange, layoutBroken, workJudged, judged};
+ghost use Rattle.judgement.specs.Judgement.{lengthOutOfRange, sizesOutOfRange, layoutBroken, judged};
 ghost use Rattle.judgement.specs.JudgementLaws.{Sized, Narrow};
 ghost use Rattle.judgement.specs.PassedLaws.{listJudged};
 use refusal::Refusal;
 use refusal::Verdict;
 use workfile::Header;
 
-// The judgement of a file by 1 to 9, beside a finish list of so many places.
+// The judgement of a file by 1 to 9, beside a finish list of so many places: its layout, then its table, then its arrivals.
 pub fn judge(file: &[u8], places: usize) -> Verdict
     ensures { λ r. ⌜ onPaper r ≡ judged (now (file .entry)) places ⌝ }
 {
@@ -25,18 +25,10 @@ pub fn judge(file: &[u8], places: usize) -> Verdict
     if is_layout_broken(h, bytes) {
         return Verdict::Refused(Refusal::Layout);
     }
-    judge_work(file, h, places)
-}
-
-// 4 and 5, and where the table is admitted the arrivals and 9.
-fn judge_work(file: &[u8], h: Header, places: usize) -> Verdict
-    requires { ⌜ Sized h ⌝ }
-    ensures { λ r. ⌜ onPaper r ≡ workJudged (workUnder h (now (file .entry))) places ⌝ }
-{
     let table = admit(file, h);
     match table {
         Verdict::Accepted => judge_arrivals(file, h, places),
-        Verdict::Refused(why) => Verdict::Refused(why),
+        Verdict::Refused(_) => table,
     }
 }
 

@@ -1,11 +1,14 @@
--- `judgement::judge` meets its promise: the tests for 1, 2 and 3 in that order, and what passes them is for the work.
+-- `judgement::judge` meets its promise: the tests for 1, 2 and 3 in that order, and what passes them is for the work: what admission
+-- refuses is refused, and the rest is for the arrivals.
 use borrow.Author.Needs.{needs}
 use lib.ListN.{length}
 use mathlib.Core.Bool.{false}
-use mathlib.Core.Path.{_≡_, sym, _∙_}
+use mathlib.Core.Path.{_≡_, sym, _∙_, ap}
 use native.Mathlib.Omega.{arith}
-use Rattle.judgement.specs.Judgement.{lengthOutOfRange, sizesOutOfRange, layoutBroken}
-use Rattle.judgement.specs.JudgementLaws.{sized, narrow, judged-length, judged-sizes, judged-layout, judged-work}
+use Rattle.refusal.specs.Refusals.{onPaper}
+use Rattle.workfile.specs.Work.{workUnder}
+use Rattle.judgement.specs.Judgement.{lengthOutOfRange, sizesOutOfRange, layoutBroken, workJudged, judged}
+use Rattle.judgement.specs.JudgementLaws.{sized, narrow, judged-length, judged-sizes, judged-layout, judged-work, work-admitted, work-refused}
 use Rattle.judgement.proofs.judge.Statement.{statement}
 use Rattle.judgement.proofs.judge.Tie as tie
 
@@ -54,17 +57,38 @@ returns-3 c =
     (in-range (c .before .before))
     (sym (c .before .is-layout-broken .ensures) ∙ c .if3 .taken))
 
-judge-work-requires : tie.Need-judge-work-requires
-judge-work-requires c κs = sized _ (in-range (c .before .before))
+-- the table is for admission, and the judgement of the file that of its work
+admit-requires : tie.Need-admit-requires
+admit-requires c κs = sized _ (in-range (c .before .before))
+
+judged-so : (c : tie.Else3)
+    → judged (c .before .before .before .before .before .before .before .before .args .file .now) (c .before .before .before .before .before .before .before .before .args .places)
+    ≡ workJudged
+    (workUnder (c .before .before .before .before .header-of .result) (c .before .before .before .before .before .before .before .before .args .file .now))
+    (c .before .before .before .before .before .before .before .before .args .places)
+judged-so c =
+    judged-work _ _ (c .before .before .before .before .header-of .ensures) (in-length (c .before .before .before .before .before))
+    (in-range (c .before .before))
+    (in-place c)
+
+enum-told : tie.Need-enum-told
+enum-told c = search needs
+
+judge-arrivals-requires : tie.Need-judge-arrivals-requires
+judge-arrivals-requires c κs = sized _ (in-range (c .before .before .before .before .before))
+
+enum-told-2 : tie.Need-enum-told-2
+enum-told-2 c = search needs
 
 returns-4 : tie.Need-returns-4
 returns-4 c =
-    c .judge-work .ensures
-    ∙ sym
-    (judged-work _ _ (c .before .before .before .before .before .header-of .ensures)
-    (in-length (c .before .before .before .before .before .before))
-    (in-range (c .before .before .before))
-    (in-place (c .before)))
+    let admitted = sym (c .before .before .before .admit .ensures) ∙ ap onPaper (c .before .enum-told .given .1) in
+    c .judge-arrivals .ensures ∙ sym (judged-so (c .before .before .before .before) ∙ work-admitted _ _ admitted)
+
+returns-5 : tie.Need-returns-5
+returns-5 c =
+    let told = ap onPaper (c .enum-told2 .given .1) in
+    told ∙ sym (judged-so (c .before .before .before) ∙ work-refused _ _ _ _ (sym (c .before .before .admit .ensures) ∙ told))
 
 pub judge-spec : {M : Type 1} → statement M
 judge-spec =
@@ -77,5 +101,9 @@ judge-spec =
     returns-2
     is-layout-broken-requires
     returns-3
-    judge-work-requires
-    returns-4)
+    admit-requires
+    enum-told
+    judge-arrivals-requires
+    enum-told-2
+    returns-4
+    returns-5)
