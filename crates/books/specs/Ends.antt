@@ -1,27 +1,22 @@
 -- The finish list and the records of a run that has come to moment t: what the definitions give for that horizon.
-use Prim.Native.Nat.{ℕ, suc, _+_, _-_, _≤_, _<_, zero-le}
-use borrow.Author.Tests.{leb-true, lt-ltb, le-ltb, eq-eqb, ne-eqb}
+use Prim.Native.Nat.{ℕ, suc, _≤_, _<_, zero-le}
+use borrow.Author.Tests.{leb-true, lt-ltb, le-ltb}
 use lib.Dec.{leb, ltb}
-use lib.ListN.{length, getD, replicate, set, length-set, length-replicate, getD-replicate}
-use lib.Seq.{getD-set-same, getD-set-other}
+use lib.ListN.{length, getD, set}
 use mathlib.Core.Bool.{Bool, true, false, cond}
 use mathlib.Core.List.{List}
-use mathlib.Core.Path.{_≡_, refl, sym, _∙_, ap, ap₂}
-use native.Mathlib.Decide.{decLt, ℕ-discrete}
+use mathlib.Core.Path.{_≡_, refl, sym, _∙_, ap}
+use native.Mathlib.Decide.{decLt}
 use native.Mathlib.Omega.{arith}
-use Rattle.counting.specs.Count.{count, count-empty, count-hit, count-miss, count-le}
-use Rattle.counting.specs.Places.{places, length-places, getD-places, places-getD, places-same, places-replicate, set-places}
+use Rattle.counting.specs.Places.{places, length-places, getD-places, places-getD, places-same, set-places}
 use Rattle.counting.specs.Totals.{longest}
-use Rattle.finish.specs.Finish.{Finish, isOpen, at, firstServed, servedBy, finish, shown, finishList, workOf}
+use Rattle.finish.specs.Finish.{Finish, isOpen, firstServed, servedBy, finish, shown, finishList, workOf}
 use Rattle.finish.specs.FinishLaws.{finish-open}
 use Rattle.history.specs.ChoiceLaws.{served-start}
 use Rattle.judgement.specs.FitLaws.{Fit}
 use Rattle.moments.specs.Moments.{history}
-use Rattle.sizes.specs.Sizes.{mostServers, openJob}
-use Rattle.summary.specs.declared.Response.{Response}
-use Rattle.summary.specs.declared.Summary.{Summary}
-use Rattle.summary.specs.Summary.{blank, isJob, responseOf, finishedOf, responses}
-use Rattle.summary.specs.SummaryLaws.{withJob, finished-same, responses-same, finished-none, responses-none, finished-more, responses-more, finished-alike, responses-alike}
+use Rattle.sizes.specs.Sizes.{openJob}
+use Rattle.summary.specs.Summary.{responseOf}
 use Rattle.workfile.specs.Work.{Work}
 use Rattle.books.specs.Jobs.{work-own}
 

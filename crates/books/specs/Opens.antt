@@ -3,7 +3,7 @@ use Prim.Native.Nat.{ℕ, _<_}
 use lib.ListN.{getD, set, length-set}
 use lib.Seq.{getD-set-same, getD-set-other}
 use mathlib.Core.List.{List}
-use mathlib.Core.Path.{_≡_, sym, subst, subst⁻¹, subst₂}
+use mathlib.Core.Path.{_≡_, subst, subst⁻¹}
 use native.Mathlib.Decide.{decLt, ℕ-discrete}
 use native.Mathlib.Omega.{arith}
 use Rattle.dispatcher.specs.declared.Dispatcher.{Dispatcher}

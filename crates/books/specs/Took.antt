@@ -11,7 +11,7 @@ use Rattle.dispatcher.specs.declared.Dispatcher.{Dispatcher}
 use Rattle.dispatcher.specs.Moves.{arrival}
 use Rattle.dispatcher.specs.Pick.{serverAt}
 use Rattle.dispatcher.specs.Within.{Within}
-use Rattle.judgement.specs.FitLaws.{Fit, in-order-all}
+use Rattle.judgement.specs.FitLaws.{Fit}
 use Rattle.server.specs.RangeLaws.{deadline-below}
 use Rattle.sizes.specs.Sizes.{clockEnd}
 use Rattle.workfile.specs.Work.{Work}

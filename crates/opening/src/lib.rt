@@ -2,14 +2,11 @@
 ghost use mathlib.Core.Path.{_≡_};
 ghost use Prim.Native.Nat.{_+_, _*_, _/_, _≤_, _<_};
 ghost use lib.ListN.{length};
-ghost use Rattle.booking.specs.Admission.{admission};
-ghost use Rattle.booking.specs.Share.{shareOf};
 ghost use Rattle.dispatcher.specs.Start.{atStart};
 ghost use Rattle.dispatcher.specs.Within.{Within};
 ghost use Rattle.refusal.specs.Refusals.{onPaper};
 ghost use Rattle.sizes.specs.Sizes.{mostServers};
 ghost use Rattle.opening.specs.Opening.{listed, outOfRange, judged, opening, openingSays, noServers};
-ghost use Rattle.opening.specs.OpeningLaws.{InRange};
 use booking::Booking;
 use booking::Share;
 use clock::Length;

@@ -1,5 +1,4 @@
 // An arrival of the moment is taken.
-ghost use mathlib.Core.Path.{_≡_};
 ghost use Prim.Native.Nat.{suc, _≤_, _<_};
 ghost use Rattle.books.specs.Accepted.{Accepted};
 ghost use Rattle.books.specs.Keys.{Keyed};

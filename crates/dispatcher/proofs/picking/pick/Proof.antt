@@ -1,6 +1,5 @@
 -- `dispatcher::picking::pick` meets its promise: after i turns `best` is the earliest of the first i servers, or none of them works.
 use Prim.Native.Nat.{ℕ, suc, _-_, _≤_, _<_}
-use borrow.Author.Needs.{needs}
 use mathlib.Core.Bool.{Bool, true, false, cond}
 use mathlib.Core.Logic.{⊎-elim}
 use mathlib.Core.Path.{_≡_, refl, sym, _∙_, subst}

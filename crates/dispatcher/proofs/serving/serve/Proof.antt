@@ -2,7 +2,6 @@
 -- other.
 use borrow.Author.Needs.{needs}
 use mathlib.Core.Path.{sym, _∙_, ap}
-use Rattle.clock.specs.declared.Moment.{Moment}
 use Rattle.clock.specs.Clock.{shown-whole}
 use Rattle.server.specs.MoveLaws.{served-last, served-more}
 use Rattle.server.specs.Moves.{oneTickLess, refilled}

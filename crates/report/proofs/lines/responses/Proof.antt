@@ -1,7 +1,6 @@
 -- `report::lines::responses` meets its promise, case by case.
-use Prim.Native.Nat.{ℕ}
 use borrow.Author.Needs.{needs}
-use mathlib.Core.List.{List, _++_}
+use mathlib.Core.List.{_++_}
 use mathlib.Core.Path.{refl, sym, _∙_, ap}
 use Rattle.report.specs.DayReport.{totalField, longestField}
 use Rattle.summary.specs.declared.Response.{Response}

@@ -4,7 +4,6 @@ use borrow.Author.Needs.{needs}
 use mathlib.Core.Path.{ap, ap₂}
 use native.Mathlib.Omega.{arith}
 use Rattle.books.specs.Budgets.{budgetsOn}
-use Rattle.books.specs.declared.Current.{Current}
 use Rattle.clock.specs.Clock.{moment}
 use Rattle.clock.specs.declared.Moment.{Moment}
 use Rattle.server.specs.declared.Server.{Server}
