@@ -1,17 +1,15 @@
 // Step 1 of a moment, at one server: it takes the work of an arrival, and wakes where it was idle.
-ghost use mathlib.Core.Bool.{cond};
 ghost use mathlib.Core.Path.{_≡_};
 ghost use Prim.Native.Nat.{_+_, _≤_};
-ghost use Rattle.server.specs.Moves.{renews, woken, arrived};
+ghost use Rattle.server.specs.Moves.{renews, arrived};
 ghost use Rattle.server.specs.Ranges.{Ranged};
-ghost use Rattle.server.specs.Server.{idle};
 ghost use Rattle.sizes.specs.Sizes.{clockEnd, mostWaiting};
 use crate::refilling;
 use clock::Length;
 use clock::Moment;
 use server::Server;
 
-// The server with the work, woken first where it was idle.
+// The server with the work, and renewed where it was idle and its budget and deadline are not kept.
 pub(crate) fn take(s: Server, now: Moment, cost: Length) -> Server
     requires { ⌜ Ranged now s ⌝ }
     requires { ⌜ now .tick ≤ clockEnd ⌝ }
@@ -21,25 +19,16 @@ pub(crate) fn take(s: Server, now: Moment, cost: Length) -> Server
     let waiting = Length {
         ticks: s.waiting.ticks + cost.ticks,
     };
-    let mut next = wake(s, now);
-    next.waiting = waiting;
-    next
-}
-
-// The server at work: one that was idle renewed or kept, a busy one as it is.
-fn wake(s: Server, now: Moment) -> Server
-    requires { ⌜ Ranged now s ⌝ }
-    requires { ⌜ now .tick ≤ clockEnd ⌝ }
-    ensures { λ r. ⌜ r ≡ cond (idle s) (woken s now) s ⌝ }
-{
-    let renewed = refilling::refill(s, clock::later(now, s.period));
+    let mut kept = s;
+    kept.waiting = waiting;
+    let renewed = refilling::refill(kept, clock::later(now, s.period));
     if s.waiting.ticks != 0 {
-        return s;
+        return kept;
     }
     if is_renewed(s, now) {
         return renewed;
     }
-    s
+    kept
 }
 
 // Whether a server that wakes now renews. Both products fit: c and Q are at most T, T at most 604,800, and the deadline lies at

@@ -1,41 +1,41 @@
--- `dispatcher::taking::take` meets its promise: it gives the work to the server once that is awake, and waking leaves w as it was.
-use Prim.Native.Nat.{_+_}
+-- `dispatcher::taking::take` meets its promise: its three ways are the three laws of an arrival, busy, renewed and kept, and t + T
+-- fits, so that the moment that `later` shows is the sum.
 use borrow.Author.Needs.{needs}
-use mathlib.Core.Bool.{Bool, true, false, cond}
-use mathlib.Core.Path.{_≡_, refl, _∙_, ap}
-use Rattle.clock.specs.declared.Length.{Length}
-use Rattle.clock.specs.declared.Moment.{Moment}
-use Rattle.clock.specs.Clock.{ticks}
-use Rattle.server.specs.declared.Server.{Server}
-use Rattle.server.specs.Moves.{renews, renewed, woken, withWaiting, withWork, arrived}
-use Rattle.server.specs.Server.{idle}
+use mathlib.Core.Path.{sym, _∙_, ap}
+use native.Mathlib.Omega.{arith}
+use Rattle.clock.specs.Clock.{shown-whole}
+use Rattle.server.specs.MoveLaws.{arrived-busy, arrived-renewed, arrived-kept}
+use Rattle.server.specs.Moves.{withWork, refilled}
 use Rattle.dispatcher.proofs.taking.take.Statement.{statement}
 use Rattle.dispatcher.proofs.taking.take.Tie as tie
 
--- the server with so much more work than s has
-abbrev withMore : Server → Length → Server → Server
-withMore s cost awake = withWaiting awake (ticks (s .waiting .ticks + cost .ticks))
-
-more-than-before : (s : Server) (t : Moment) (cost : Length) → withMore s cost (cond (idle s) (woken s t) s) ≡ arrived s t cost
-unfolding arrived
-more-than-before s t cost = go (idle s) (renews s t)
-  where
-    go : (i k : Bool)
-        → withMore s cost (cond i (cond k (renewed s t) s) s) ≡ withWork (cond i (cond k (renewed s t) s) s) cost
-    go true true = refl
-    go true false = refl
-    go false k = refl
-
-add-waiting : tie.Need-add-t6
+add-waiting : tie.Need-add-t7
 add-waiting c = search needs
 
-wake-requires : tie.Need-wake-requires
-wake-requires c κs = search needs
+later-requires : tie.Need-later-requires
+later-requires c κs = search needs
+
+refill-requires : tie.Need-refill-requires
+refill-requires c κs = search needs
 
 returns : tie.Need-returns
-returns c =
-    let given = c .before .before .before .args in
-    ap (withMore (given .s) (given .cost)) (c .wake .ensures) ∙ more-than-before _ _ _
+returns c = sym (arrived-busy _ _ _ (c .if1 .taken))
+
+is-renewed-requires : tie.Need-is-renewed-requires
+is-renewed-requires c κs = search needs
+
+returns-2 : tie.Need-returns-2
+returns-2 c =
+    let refilling = c .before .before .before .before in
+    let start = refilling .before .before .before .before in
+    refilling .refill .ensures
+    ∙ ap (refilled (withWork (start .args .s) (start .args .cost)))
+    (refilling .before .later .ensures ∙ shown-whole _ (omega (arith, start .pre .0 .period, start .pre .1 .0)))
+    ∙ sym (arrived-renewed _ _ _ (c .before .before .if1 .left) (sym (c .before .is-renewed .ensures) ∙ c .if2 .taken))
+
+returns-3 : tie.Need-returns-3
+returns-3 c = sym (arrived-kept _ _ _ (c .before .before .if1 .left) (sym (c .before .is-renewed .ensures) ∙ c .if2 .left))
 
 pub take-spec : {M : Type 1} → statement M
-take-spec = tie.close (tie.spec add-waiting wake-requires returns)
+take-spec =
+    tie.close (tie.spec add-waiting later-requires refill-requires returns is-renewed-requires returns-2 returns-3)
