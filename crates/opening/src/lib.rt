@@ -8,7 +8,6 @@ ghost use Rattle.refusal.specs.Refusals.{onPaper};
 ghost use Rattle.sizes.specs.Sizes.{mostServers};
 ghost use Rattle.opening.specs.Opening.{listed, outOfRange, judged, opening, openingSays, noServers};
 use booking::Booking;
-use booking::Share;
 use clock::Length;
 use clock::Moment;
 use dispatcher::Dispatcher;

@@ -1,13 +1,26 @@
-// The jobs of each server, one behind the other, and the one that it serves.
+// The finish list, the jobs of each server, one behind the other, and the one that it serves.
 ghost use Prim.Native.Nat.{_≤_, _<_};
 ghost use lib.ListN.{length, getD, replicate};
 ghost use mathlib.Core.Path.{_≡_};
 ghost use Rattle.books.specs.Accepted.{Accepted};
 ghost use Rattle.books.specs.Lined.{Lined};
 ghost use Rattle.books.specs.Opened.{Opened, Served, WentOn};
+ghost use Rattle.finish.specs.Finish.{finishList, isOpen};
 ghost use Rattle.sizes.specs.Sizes.{clockEnd, mostArrivals, mostServers};
 ghost use Rattle.workfile.specs.Work.{work};
 use crate::reading;
+
+// Every job is open at the start.
+pub(crate) fn open_all(finishes: &mut [u32], m: usize)
+    requires { ⌜ m ≤ length (now finishes) ⌝ }
+    ensures { λ r. ⌜ now (finishes .exit) ≡ finishList m (λ k. isOpen) (now (finishes .entry)) ⌝ }
+{
+    let mut k = 0;
+    while k < m {
+        finishes[k] = sizes::OPEN_JOB;
+        k += 1;
+    }
+}
 
 // The first job of each server, and the job behind each, from the last arrival to the first. Where there is none it is the count of
 // all arrivals, which `first` holds everywhere at the start.

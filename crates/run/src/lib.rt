@@ -3,7 +3,6 @@
 // The rules know a run tick by tick. This one goes from event to event, a server that runs going on until it is done, postponed, or
 // something arrives, and is proved to give what the rules give.
 mod budgets;
-mod ending;
 mod jobs;
 mod reading;
 mod serving;

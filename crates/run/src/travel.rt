@@ -5,14 +5,12 @@ ghost use lib.ListN.{length};
 ghost use Rattle.books.specs.Accepted.{Accepted};
 ghost use Rattle.books.specs.Came.{Came};
 ghost use Rattle.workfile.specs.Work.{work};
-use crate::ending;
 use crate::jobs;
 use crate::reading;
 use crate::spell;
 use crate::starting;
 use crate::stretches;
 use crate::taking;
-use crate::tree;
 use clock::Moment;
 
 pub struct Travelled {
@@ -30,7 +28,7 @@ pub(crate) fn travel(file: &[u8], list: &mut [u64], finishes: &mut [u32]) -> Tra
     let h = workfile::header_of(file);
     let horizon = h.horizon.tick;
     let arrivals = h.arrivals.count;
-    ending::open_all(finishes, arrivals);
+    jobs::open_all(finishes, arrivals);
     let mut d = starting::start(file);
     // The winner tree, in which an idle server has the last number of all for its key.
     let mut keys = [clock::LAST_TICK; 128];

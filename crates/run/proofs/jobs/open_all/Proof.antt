@@ -1,4 +1,4 @@
--- `run::ending::open_all` meets its promise: each turn makes one place more that of an open job.
+-- `run::jobs::open_all` meets its promise: each turn makes one place more that of an open job.
 use Prim.Native.Nat.{ℕ, _-_, _≤_, zero-le}
 use borrow.Author.Needs.{needs}
 use denote.Ref.{now}
@@ -10,8 +10,8 @@ use native.Mathlib.Omega.{arith}
 use Rattle.books.specs.Ends.{finishes-none, finishes-open, finishes-length}
 use Rattle.finish.specs.Finish.{finishList, isOpen}
 use Rattle.sizes.specs.Sizes.{openJob}
-use Rattle.run.proofs.ending.open_all.Statement.{statement}
-use Rattle.run.proofs.ending.open_all.Tie as tie
+use Rattle.run.proofs.jobs.open_all.Statement.{statement}
+use Rattle.run.proofs.jobs.open_all.Tie as tie
 
 -- the list keeps its length
 kept : (k : ℕ) (lent : List ℕ) {list : List ℕ} → list ≡ finishList k (λ j. isOpen) lent → length list ≡ length lent
