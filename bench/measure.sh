@@ -10,8 +10,10 @@ misused() {
 # --runs is for those that take the median of several measurements: they say how many in `runs` before they take the options.
 unset -v runs
 # shellcheck disable=SC2154 # from is set by the script
-take_options() { # [OPTION..]
-	program=target/bin/day_report
+take_options() { # CRATE of the program that is measured, [OPTION..]
+	crate=$1
+	program=target/bin/$crate
+	shift
 	while (($# > 0)); do
 		case $1 in
 		--help | -h)
@@ -30,42 +32,56 @@ take_options() { # [OPTION..]
 	done
 }
 
-# Makes the work files, in $work, and the programs: the report first, then what it is measured against, each with a heading. One
-# more program is one more line.
-set_up() { # WORD of bench/files.c, for the files
+# Makes the folder $work with the work files in it. The programs come one by one, the first being what is measured: a program, with a
+# word where it takes one, and a heading.
+set_up() { # SOURCE of the program that writes the files, [WORD]
 	. tools/toolchain.sh
 	[[ ! ${runs+said} || $runs =~ ^[1-9][0-9]*$ ]] || fail "--runs takes a count from 1 on"
-	[[ -f $program ]] || fail "no program $program; rt check day_report makes it"
+	[[ -f $program ]] || fail "no program $program; rt check $crate makes it"
 	work=$(mktemp -d)
 	trap 'rm -rf "$work"' EXIT
-	tools/plain-c bench/files.c "$work/make-files"
-	(start "$work/make-files" "$work" "$1") || fail "the work files could not be written"
-
-	headings=("report")
-	programs=("$program")
-	against "C by ticks" tests/plain/report.c
-	against "C by events" tests/plain/events.c
+	tools/plain-c "$1" "$work/make-files"
+	shift
+	(start "$work/make-files" "$work" "$@") || fail "the work files could not be written"
+	headings=() programs=() words=()
 }
 
-against() { # HEADING SOURCE
-	tools/plain-c "$2" "$work/program-${#programs[@]}"
+add_program() { # HEADING PROGRAM [WORD]
 	headings+=("$1")
-	programs+=("$work/program-${#programs[@]}")
+	programs+=("$2")
+	words+=("${3:-}")
 }
 
-# Nothing is measured of programs that do not print the same. What the report prints stays in $work/output-0.
+add_plain_c() { # HEADING SOURCE
+	tools/plain-c "$2" "$work/program-${#programs[@]}"
+	add_program "$1" "$work/program-${#programs[@]}"
+}
+
+# The report, and what it is measured against.
+add_reports() {
+	add_program "report" "$program"
+	add_plain_c "C by ticks" tests/plain/report.c
+	add_plain_c "C by events" tests/plain/events.c
+}
+
+# Becomes one of the programs.
+begin() { # WHICH
+	start "${programs[$1]}" ${words[$1]:+"${words[$1]}"}
+}
+
+# Nothing is measured of programs that do not print the same. What the first prints stays in $work/output-0.
 compare_outputs() { # FILE
 	local p
 	for ((p = 0; p < ${#programs[@]}; p++)); do
-		(start "${programs[p]}") <"$work/$1" >"$work/output-$p" || fail "${headings[p]} ends with status $? on the file $1"
-		cmp -s "$work/output-0" "$work/output-$p" || fail "${headings[p]} prints something else than the report on the file $1"
+		(begin "$p") <"$work/$1" >"$work/output-$p" || fail "${headings[p]} ends with status $? on the file $1"
+		cmp -s "$work/output-0" "$work/output-$p" || fail "${headings[p]} prints something else than ${headings[0]} on the file $1"
 	done
 }
 
 # The processor time of so many runs of a program on a file, in milliseconds for one.
-measure() { # PROGRAM FILE REPEATS
+measure() { # WHICH FILE REPEATS
 	local TIMEFORMAT='%U %S' i
-	{ time for ((i = 0; i < $3; i++)); do (start "$1") <"$work/$2" >/dev/null 2>&1; done; } 2>&1 |
+	{ time for ((i = 0; i < $3; i++)); do (begin "$1") <"$work/$2" >/dev/null 2>&1; done; } 2>&1 |
 		awk -v repeats="$3" '{ printf "%.3f\n", ($1 + $2) * 1000 / repeats }'
 }
 
@@ -79,13 +95,13 @@ median() { # FILE with one number to a line
 take_medians() { # FILE
 	local p run once repeats=()
 	for ((p = 0; p < ${#programs[@]}; p++)); do
-		once=$(measure "${programs[p]}" "$1" 1)
+		once=$(measure "$p" "$1" 1)
 		repeats+=("$(awk -v once="$once" 'BEGIN { n = 250 / (once < 1 ? 1 : once); print n < 1 ? 1 : int(n + 0.999) }')")
 		: >"$work/times-$p"
 	done
 	for ((run = 0; run < runs; run++)); do
 		for ((p = 0; p < ${#programs[@]}; p++)); do
-			measure "${programs[p]}" "$1" "${repeats[p]}" >>"$work/times-$p"
+			measure "$p" "$1" "${repeats[p]}" >>"$work/times-$p"
 		done
 	done
 	medians=()
