@@ -1,5 +1,6 @@
 -- `dispatcher::picking::pick` meets its promise: after i turns `best` is the earliest of the first i servers, or none of them works.
 use Prim.Native.Nat.{ℕ, suc, _-_, _≤_, _<_}
+use borrow.Author.Needs.{needs}
 use mathlib.Core.Bool.{Bool, true, false, cond}
 use mathlib.Core.Logic.{⊎-elim}
 use mathlib.Core.Path.{_≡_, refl, sym, _∙_, subst}
@@ -58,16 +59,22 @@ ended d k best least (nobody q l none) e = q ∙ sym (none-picked d (subst (None
 ended d k best least (somebody f l) e = sym (earliest-picked d best (subst (λ (n : ℕ). Earliest d n best) e f))
 
 abbrev Inv-loop : tie.InvT-loop
-Inv-loop d best₀ least₀ i₀ best least i = (i ≤ d .count) × Sofar d i best (least .tick)
+Inv-loop d count best₀ least₀ i₀ best least i = (i ≤ d .count) × Sofar d i best (least .tick)
 
 abbrev μ-loop : tie.MeasureT-loop
-μ-loop d best₀ least₀ i₀ best least i = d .count - i
+μ-loop d count best₀ least₀ i₀ best least i = d .count - i
 
 loop-holds : tie.Need-loop-holds Inv-loop μ-loop
 loop-holds c = (omega arith, nobody refl refl (λ j b. absurd (not-suc-le-zero b)))
 
+mul-due : tie.Need-mul-due Inv-loop μ-loop
+mul-due c = omega (arith, c .before .before .pre .count)
+
+element-copy-out-due : tie.Need-element-copy-out-due Inv-loop μ-loop
+element-copy-out-due c = omega (arith, c .before .before .pre .count)
+
 due-requires : tie.Need-due-requires Inv-loop μ-loop
-due-requires c κs = omega (arith, c .if1 .taken, c .before .before .before .pre .count)
+due-requires c κs = search needs
 
 add-i : tie.Need-add-i Inv-loop μ-loop
 add-i c = omega (arith, c .before .before .before .before .before .before .before .pre .count)
@@ -77,10 +84,10 @@ loop-less c = omega arith
 
 loop-again : tie.Need-loop-again Inv-loop μ-loop
 loop-again c =
-    let d = c .before .before .before .before .before .before .before .args .d in
+    let d = c .before .before .before .before .before .before .before .args .t1 in
     let ok = c .before .before .before .before .before .before .before .pre in
     let turn = c .before .before .before .before .before .before .loop in
-    let here = c .before .before .before .before .if1 .taken in
+    let here = c .before .before .before .before .before .loop-test .taken in
     let due = c .before .before .before .due .ensures in (
       omega arith,
       rw add-one
@@ -89,13 +96,11 @@ loop-again c =
           (takes-over d ok (turn .i) here (turn .best) (turn .least .tick) (turn .inv .1) (rw due at (w .0 .taken))))
           (λ w. rw (w .1, w .2)
           (stays d ok (turn .i) here (turn .best) (turn .least .tick) (turn .inv .1) (rw due at (w .0 .left))))
-          (c .if2 .came)),
+          (c .if1 .came)),
     )
 
 returns : tie.Need-returns Inv-loop μ-loop
-returns c =
-    let turn = c .before .before .loop in
-    ended (c .before .before .before .args .d) _ _ _ (turn .inv .1) (omega (arith, c .if1 .left, turn .inv .0))
+returns c = ended (c .before .before .args .t1) _ _ _ (c .before .loop .inv .1) (omega (arith, c .loop-test .left, c .before .loop .inv .0))
 
 pub pick-spec : {M : Type 1} → statement M
 pick-spec =
@@ -104,6 +109,8 @@ pick-spec =
     Inv-loop
     μ-loop
     loop-holds
+    mul-due
+    element-copy-out-due
     due-requires
     add-i
     loop-less
