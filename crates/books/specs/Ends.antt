@@ -1,4 +1,4 @@
--- The finish list and the records of a run that has come to moment t: what the definitions give for that horizon.
+-- The finish list of a run that has come to moment t: what the definitions give for that horizon.
 use Prim.Native.Nat.{ℕ, suc, _≤_, _<_, zero-le}
 use borrow.Author.Tests.{leb-true, lt-ltb, le-ltb}
 use lib.Dec.{leb, ltb}

@@ -11,7 +11,7 @@ use Rattle.books.specs.Keys.{keyOf}
 
 pub record Planned (keys : List ℕ) (i : ℕ) (s : Server) (rest room ticks : ℕ) (after : Server) (budgets : ℕ) (last : Server)
     (key gone postponed : ℕ) : Type 0 where
-  -- r ticks at least, within its job, its budget and the time
+  -- at least one tick, within its job, its budget and the time
   pub some : 0 < ticks
   pub inside : ticks ≤ rest
   pub budget : ticks ≤ s .remaining .ticks

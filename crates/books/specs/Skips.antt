@@ -124,7 +124,7 @@ module _ (c : Current) (t i : ℕ) (s : Server) (server : i < mostServers) (peri
 
   -- From b budgets on to n.
   module _ (b : ℕ) (one : 1 ≤ b) where
-    pub skipped-count : (n : ℕ) → b ≤ n → currentOn c t i s n .count ≡ currentOn c t i s b .count + (n - b)
+    skipped-count : (n : ℕ) → b ≤ n → currentOn c t i s n .count ≡ currentOn c t i s b .count + (n - b)
     skipped-count zero le = let no : ⊥ = omega arith in absurd no
     skipped-count (suc n) le = go (ℕ-discrete b (suc n)) (skipped-count n)
       where

@@ -21,11 +21,11 @@ use Rattle.books.specs.Opened.{WentOn}
 use Rattle.books.specs.Planned.{Planned}
 use Rattle.books.specs.Turns.{traceThen, interruptedThen}
 use Rattle.books.specs.Travels.{Travels}
-use Rattle.books.specs.Went.{Went, after-ticks}
+use Rattle.books.specs.Went.{Went, afterTicks}
 use Rattle.books.specs.Winners.{Set}
 
 -- the dispatcher at another moment, with another server
-abbrev pub movedTo : Dispatcher → ℕ → ℕ → Server → Dispatcher
+abbrev movedTo : Dispatcher → ℕ → ℕ → Server → Dispatcher
 movedTo d t i s = record { frame = d .frame; count = d .count; clock = moment t; servers = set (d .servers) i s }
 
 module _ {w : Work} {lent ends : List ℕ} {t j next : ℕ} {d : Dispatcher} {keys job left postponed interrupted list finishes : List ℕ}
@@ -61,18 +61,18 @@ module _ {w : Work} {lent ends : List ℕ} {t j next : ℕ} {d : Dispatcher} {ke
             g .interrupted-is
             ∙ ap
             (λ (s : Server).
-            interruptedOn (after-ticks c t i (serverAt d i .deadline) s) (t + g .ticks) i s (g .budgets)
+            interruptedOn (afterTicks c t i (serverAt d i .deadline) s) (t + g .ticks) i s (g .budgets)
             (interruptedThen c i (serverAt d i .deadline) interrupted))
             (p .after-is);
         list-is =
             g .list-is
             ∙ ap
             (λ (s : Server).
-            traceOn (after-ticks c t i (serverAt d i .deadline) s) (t + g .ticks) i s (g .budgets) (traceThen c t i (serverAt d i .deadline) list))
+            traceOn (afterTicks c t i (serverAt d i .deadline) s) (t + g .ticks) i s (g .budgets) (traceThen c t i (serverAt d i .deadline) list))
             (p .after-is);
         current-is =
             g .current-is
-            ∙ ap (λ (s : Server). currentOn (after-ticks c t i (serverAt d i .deadline) s) (t + g .ticks) i s (g .budgets)) (p .after-is);
+            ∙ ap (λ (s : Server). currentOn (afterTicks c t i (serverAt d i .deadline) s) (t + g .ticks) i s (g .budgets)) (p .after-is);
       }
 
   dispatcher-is : dispatcherAfter d t i (g .ticks) (g .budgets) ≡ movedTo d (t + long) i last

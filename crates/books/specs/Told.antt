@@ -12,7 +12,7 @@ use Rattle.counting.specs.Count.{count, count-empty, count-miss}
 use Rattle.counting.specs.Places.{places-same}
 use Rattle.finish.specs.Finish.{isOpen}
 use Rattle.judgement.specs.FitLaws.{Fit}
-use Rattle.records.specs.Records.{recordsOf, filledAt, filled}
+use Rattle.records.specs.Records.{recordOf, recordsOf, filledAt, filled}
 use Rattle.records.specs.RecordsLaws.{records-of-run}
 use Rattle.sizes.specs.Sizes.{mostServers}
 use Rattle.summary.specs.declared.Summary.{Summary}
@@ -20,17 +20,6 @@ use Rattle.summary.specs.Summary.{blank, isJob, arrivedOf, finishedOf, response
 use Rattle.summary.specs.SummaryLaws.{finished-none, responses-none}
 use Rattle.workfile.specs.Work.{Work}
 use Rattle.books.specs.Came.{Came}
-
--- what the list tells of server i
-abbrev told : Work → ℕ → Summary
-told w i =
-    record {
-      arrived = arrivedOf w i;
-      finished = finishedOf w (finishes w) i;
-      postponed = 0;
-      interrupted = 0;
-      response = responses w (finishes w) i;
-    }
 
 none-counted : (w : Work) (i n : ℕ) → ((k : ℕ) → k < n → w .arrival k .server ≡ i → ⊥) → count n (isJob w i) ≡ 0
 none-counted w i zero none = count-empty (isJob w i)
@@ -43,16 +32,17 @@ none-arrived w i none = none-counted w i (w .arrivals) none
 
 module _ {w : Work} {lent ends list finished : List ℕ} {segments : ℕ} {postponed interrupted : List ℕ} (fit : Fit w (length ends))
     (came : Came w lent ends list finished segments postponed interrupted) where
-  record-is : (i : ℕ) → i < mostServers → getD (recordsOf w finished) i blank ≡ told w i
+  record-is : (i : ℕ) → i < mostServers → getD (recordsOf w finished) i blank ≡ recordOf w (finishes w) i
   record-is = records-of-run w ends finished (fit .finishes) (omega (arith, fit .horizon)) (came .finishes-is)
 
   -- a server of the table
   summary-is : (i : ℕ) → i < mostServers → filledAt postponed interrupted (getD (recordsOf w finished) i blank) i ≡ summaryOf w i
-  unfolding filledAt summaryOf
+  unfolding filledAt summaryOf recordOf
   summary-is i b = rw (record-is i b, came .postponed-is i b, came .interrupted-is i b)
 
   -- one behind the table has no job
-  behind-blank : (i : ℕ) → w .table .count ≤ i → told w i ≡ blank
+  behind-blank : (i : ℕ) → w .table .count ≤ i → recordOf w (finishes w) i ≡ blank
+  unfolding recordOf
   behind-blank i l = rw (arrived-none, finished-none w (finishes w) i none, responses-none w (finishes w) i none)
     where
       none : (k : ℕ) → k < w .arrivals → w .arrival k .server ≡ i → finishes w k ≡ isOpen

@@ -13,8 +13,8 @@ use Rattle.books.specs.Turns.{traceThen, interruptedThen, currentThen}
 use Rattle.books.specs.Winners.{Set}
 
 -- the stretch that the run is in after the ticks of a spell
-abbrev pub after-ticks : Current → ℕ → ℕ → Moment → Server → Current
-after-ticks c t i deadline after = withWaits (currentThen c t i deadline) (after .waiting .ticks)
+abbrev pub afterTicks : Current → ℕ → ℕ → Moment → Server → Current
+afterTicks c t i deadline after = withWaits (currentThen c t i deadline) (after .waiting .ticks)
 
 pub record Went (t i : ℕ) (s : Server) (rest room : ℕ) (c : Current)
     (keys list postponed interrupted keys′ list′ postponed′ interrupted′ : List ℕ) (c′ : Current) (last : Server) (gone : ℕ)
@@ -27,9 +27,9 @@ pub record Went (t i : ℕ) (s : Server) (rest room : ℕ) (c : Current)
   pub planned : Planned keys i s rest room ticks after budgets last key gone postponements
   pub postponed-is : postponed′ ≡ set postponed i (getD postponed i 0 + postponements)
   pub set-now : Set keys keys′ i key
-  pub current-is : c′ ≡ currentOn (after-ticks c t i (s .deadline) after) (t + ticks) i after budgets
+  pub current-is : c′ ≡ currentOn (afterTicks c t i (s .deadline) after) (t + ticks) i after budgets
   pub list-is :
-      list′ ≡ traceOn (after-ticks c t i (s .deadline) after) (t + ticks) i after budgets (traceThen c t i (s .deadline) list)
+      list′ ≡ traceOn (afterTicks c t i (s .deadline) after) (t + ticks) i after budgets (traceThen c t i (s .deadline) list)
   pub interrupted-is :
       interrupted′
-      ≡ interruptedOn (after-ticks c t i (s .deadline) after) (t + ticks) i after budgets (interruptedThen c i (s .deadline) interrupted)
+      ≡ interruptedOn (afterTicks c t i (s .deadline) after) (t + ticks) i after budgets (interruptedThen c i (s .deadline) interrupted)

@@ -18,20 +18,20 @@ use Rattle.workfile.specs.Work.{Work}
 abbrev pub finishIn : List ℕ → ℕ → Finish
 finishIn list k = finishOf (getD list k openJob)
 
--- the record of server i: its jobs, those of them that have finished, and their responses
-unfoldable pub recordOf : Work → List ℕ → ℕ → Summary
-recordOf w list i =
+-- the record of server i by the finishes of all jobs: its jobs, those of them that have finished, and their responses
+unfoldable pub recordOf : Work → (ℕ → Finish) → ℕ → Summary
+recordOf w f i =
     record {
       arrived = arrivedOf w i;
-      finished = finishedOf w (finishIn list) i;
+      finished = finishedOf w f i;
       postponed = 0;
       interrupted = 0;
-      response = responses w (finishIn list) i;
+      response = responses w f i;
     }
 
--- all 64
+-- all 64, by the list
 unfoldable pub recordsOf : Work → List ℕ → List Summary
-recordsOf w list = places mostServers (recordOf w list)
+recordsOf w list = places mostServers (recordOf w (finishIn list))
 
 -- a record of server i with the two counts that are kept for it
 unfoldable pub filledAt : List ℕ → List ℕ → Summary → ℕ → Summary

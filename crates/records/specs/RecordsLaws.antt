@@ -9,7 +9,7 @@ use Rattle.finish.specs.ListLaws.{list-shows-or, finish-told}
 use Rattle.moments.specs.Moments.{history}
 use Rattle.sizes.specs.Sizes.{mostServers, openJob}
 use Rattle.summary.specs.declared.Response.{Response}
-use Rattle.summary.specs.Summary.{blank, arrivedOf, finishedOf, responses, finishes}
+use Rattle.summary.specs.Summary.{blank, arrivedOf, finishes}
 use Rattle.summary.specs.SummaryLaws.{finished-same, responses-same}
 use Rattle.workfile.specs.Work.{Work}
 use Rattle.records.specs.Records.{finishIn, recordOf, recordsOf}
@@ -24,18 +24,10 @@ module _ (w : Work) (ends list : List ℕ) (long : w .arrivals ≤ length ends) 
       ∙ ap finishOf (list-shows-or openJob (w .arrivals) (finishes w) ends k b long)
       ∙ finish-told (history w) _ _ (w .horizon .tick) short
 
-  pub records-of-run : (i : ℕ) → i < mostServers
-      → getD (recordsOf w list) i blank
-      ≡ record {
-        arrived = arrivedOf w i;
-        finished = finishedOf w (finishes w) i;
-        postponed = 0;
-        interrupted = 0;
-        response = responses w (finishes w) i;
-      }
+  pub records-of-run : (i : ℕ) → i < mostServers → getD (recordsOf w list) i blank ≡ recordOf w (finishes w) i
   unfolding recordsOf recordOf
   records-of-run i b =
-      getD-places mostServers (recordOf w list) i blank b
+      getD-places mostServers (recordOf w (finishIn list)) i blank b
       ∙ ap₂ (λ (n : ℕ) (r : Response). record { arrived = arrivedOf w i; finished = n; postponed = 0; interrupted = 0; response = r })
       (finished-same w (finishIn list) (finishes w) finish-in i)
       (responses-same w (finishIn list) (finishes w) finish-in i)

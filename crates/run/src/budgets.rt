@@ -113,17 +113,18 @@ pub(crate) fn pass(
     ensures { λ r. ⌜ now (list .exit) ≡ traceOn c t i s n (now (list .entry)) ⌝ }
     ensures { λ r. ⌜ now (interrupted .exit) ≡ interruptedOn c t i s n (now (interrupted .entry)) ⌝ }
 {
-    let shown = lesser(n, until_full(list.len() / 4, c.count));
-    let current = pass_each(list, interrupted, c, t, i, s, shown);
-    if shown == n {
+    let written = lesser(n, until_full(list.len() / 4, c.count));
+    let current = pass_each(list, interrupted, c, t, i, s, written);
+    if written == n {
         return current;
     }
-    let skipped = n - shown;
+    let skipped = n - written;
     interrupted[i] += skipped;
     last_of(t, i, s, n - 1, current.count + skipped as usize)
 }
 
-// After how many budgets a list that holds so many segments is full, when so many have ended: with each but the first one more has.
+// So many budgets that a list with room for `held` segments is full behind them, when `ended` have ended: each budget but the first ends
+// one more.
 fn until_full(held: usize, ended: usize) -> u64
     requires { ⌜ held < lastTick ⌝ }
     ensures { λ r. ⌜ 1 ≤ r ⌝ }
@@ -157,7 +158,7 @@ fn last_of(t: u64, i: usize, s: Server, n: u64, ended: usize) -> Current
     }
 }
 
-// The stretches of n whole budgets of server i from t on, one after the other, each written.
+// The same, with each stretch gone through.
 fn pass_each(
     list: &mut [u64],
     interrupted: &mut [u64; sizes::MOST_SERVERS],

@@ -1,4 +1,4 @@
-// The finish list, the jobs of each server, one behind the other, and the one that it serves.
+// The finish list, the jobs of each server, one behind the other, and which of them each serves.
 ghost use Prim.Native.Nat.{_≤_, _<_};
 ghost use lib.ListN.{length, getD, replicate};
 ghost use mathlib.Core.Path.{_≡_};
@@ -31,7 +31,7 @@ pub(crate) fn line_up(
 )
     requires { ⌜ Accepted (now file) ⌝ }
     requires { ⌜ now first ≡ replicate mostServers (work (now file) .arrivals) ⌝ }
-    requires { ⌜ now behind ≡ replicate mostArrivals 0 ⌝ }
+    requires { ⌜ length (now behind) ≡ mostArrivals ⌝ }
     ensures { λ _. ⌜ Lined (work (now (file .entry))) 0 (now (first .exit)) (now (behind .exit)) ⌝ }
 {
     let h = workfile::header_of(file);

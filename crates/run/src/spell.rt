@@ -1,4 +1,5 @@
-// One spell of the server that is picked: how many ticks of its job it runs at once, and for how many whole budgets it then goes on.
+// One spell of the server that is picked: how many ticks of its job it runs at once, and for how many whole budgets it then
+// goes on, and what that leaves in the books.
 ghost use mathlib.Core.Path.{_≡_};
 ghost use Prim.Native.Nat.{_+_, _*_, _≤_, _<_};
 ghost use lib.ListN.{length, getD};
@@ -17,6 +18,7 @@ use books::Current;
 use clock::Moment;
 use server::Server;
 
+// A spell before it is gone.
 struct Spell {
     ticks: u64,
     // The server after these ticks.
@@ -30,12 +32,13 @@ struct Spell {
     postponed: u64,
 }
 
+// What a spell leaves.
 pub struct Gone {
     // The server after the spell, and the stretch that the run is in then.
     pub server: Server,
     pub current: Current,
     // How long it took.
-    pub ticks: u64,
+    pub gone: u64,
 }
 
 // Server i goes for a spell from t on, with `rest` of its job left, and `room` ticks to the next arrival or the horizon.
@@ -65,7 +68,7 @@ pub(crate) fn go(
     requires { ⌜ NoneAbove t (now interrupted) ⌝ }
     requires { ⌜ getD (now postponed) i 0 ≤ t ⌝ }
     requires { ⌜ length (now interrupted) ≡ mostServers ⌝ }
-    ensures { λ r. ⌜ Went t i s rest room c (now (keys .entry)) (now (list .entry)) (now (postponed .entry)) (now (interrupted .entry)) (now (keys .exit)) (now (list .exit)) (now (postponed .exit)) (now (interrupted .exit)) (r .current) (r .server) (r .ticks) ⌝ }
+    ensures { λ r. ⌜ Went t i s rest room c (now (keys .entry)) (now (list .entry)) (now (postponed .entry)) (now (interrupted .entry)) (now (keys .exit)) (now (list .exit)) (now (postponed .exit)) (now (interrupted .exit)) (r .current) (r .server) (r .gone) ⌝ }
 {
     let p = plan(keys, i, s, rest, room);
     let current = pass_through(list, interrupted, c, t, i, s.deadline, p);
@@ -75,11 +78,11 @@ pub(crate) fn go(
     Gone {
         server,
         current,
-        ticks: p.gone,
+        gone: p.gone,
     }
 }
 
-// With `rest` of its job left, and `room` ticks to the next arrival or the horizon.
+// What the spell will be: its ticks and budgets, and the server, its key and its counts after them.
 fn plan(keys: &[u64; 128], i: usize, s: Server, rest: u64, room: u64) -> Spell
     requires { ⌜ i < 64 ⌝ }
     requires { ⌜ Winners (now keys) ⌝ }

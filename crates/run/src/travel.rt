@@ -1,5 +1,5 @@
-// A run from event to event, to the horizon. The dispatcher and the books are locals of the loop: handing them on at each event would
-// take longer than all the rest.
+// A run from event to event, to the horizon. The dispatcher and the books are locals of the loop, and a spell is handed one server: handing
+// all of them on at each spell would take longer than all the rest. An arrival is the dispatcher's own move, which takes it by value.
 ghost use Prim.Native.Nat.{_≤_};
 ghost use lib.ListN.{length};
 ghost use Rattle.books.specs.Accepted.{Accepted};
@@ -71,7 +71,7 @@ pub(crate) fn travel(file: &[u8], list: &mut [u64], finishes: &mut [u32]) -> Tra
                 rest,
                 next - t,
             );
-            let ticks = g.ticks;
+            let ticks = g.gone;
             let server = g.server;
             let current = g.current;
             c = current;

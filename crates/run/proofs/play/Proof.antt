@@ -1,4 +1,4 @@
--- `run::play` meets its promise: the run leaves the trace and the finishes, and what these and the counts tell is the summary.
+-- `run::play` meets its promise: the run leaves the trace and the finishes, and what the finishes and the counts tell is the summary.
 use borrow.Author.Needs.{needs}
 use mathlib.Core.Path.{_∙_}
 use Rattle.books.specs.Accepted.{judged-accepted}

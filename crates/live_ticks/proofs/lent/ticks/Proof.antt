@@ -1,7 +1,7 @@
 -- `live_ticks::lent::ticks` meets its promise: a walk of its MIR, by hand. At every turn the locals hold what the ticks so far have come
 -- to. For a tick the dispatcher is lent for a lifetime that is made for it, and taken back, once that has ended, at what the tick left there.
 use mathlib.Core.Path.{_≡_, refl, _∙_, ap}
-use Prim.Native.Nat.{ℕ, _+_, _-_, _<_, _≤_, _^_}
+use Prim.Native.Nat.{ℕ, _+_, _-_, _<_, _^_}
 use native.Mathlib.Nat.{lt-of-le-of-lt}
 use native.Mathlib.Omega.{arith}
 use mathlib.Core.Bool.{Bool, true, false}
@@ -62,7 +62,7 @@ use Rattle.walks.specs.Turns.{Begun, Fewer, fewer-ends, next, next-fewer, fits-
 use Rattle.live_ticks.specs.declared.tally.Tallied.{Tallied}
 use Rattle.live_ticks.specs.declared.tally.Tally.{Tally}
 use Rattle.live_ticks.specs.Ticks.{nothing as none, counted, UpTo, tallied}
-use Rattle.live_ticks.specs.TicksLaws.{having, tallied-none, tallied-next, tallied-within, tallied-up, tallied-fits}
+use Rattle.live_ticks.specs.TicksLaws.{tallied-none, tallied-next, tallied-within, tallied-up, tallied-fits}
 use Rattle.live_ticks.proofs.tally.Tally as T
 use Rattle.live_ticks.proofs.tally.Tally.Laws as T′
 use Rattle.live_ticks.proofs.tally.Tallied as S

@@ -28,7 +28,7 @@ loop-holds c =
     let read = arrivals-read _ (c .header-of .ensures) in (
       subst₂ (λ (k : ℕ) (l : List ℕ). Lined (work (start .args .file .now)) k l (start .args .behind .now)) (sym read)
           (sym (start .pre .1 .0))
-          (lined-none (ap length (start .pre .1 .1) ∙ length-replicate {A = ℕ} mostArrivals 0)),
+          (lined-none (start .pre .1 .1)),
       omega (arith, read),
     )
 

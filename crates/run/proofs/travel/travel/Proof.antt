@@ -1,7 +1,7 @@
 -- `run::travel::travel` meets its promise: what `Travels` says holds between any two events, at the start, and at the horizon.
 use Prim.Native.Nat.{ℕ, suc, _-_, _%_, _≤_, _<_}
 use borrow.Author.Needs.{needs}
-use lib.ListN.{length, getD, replicate}
+use lib.ListN.{length, getD, replicate, length-replicate}
 use mathlib.Core.List.{List}
 use mathlib.Core.Path.{_≡_, refl, sym, _∙_, ap, subst, subst⁻¹}
 use native.Mathlib.Numerals.{add-one}
@@ -26,7 +26,7 @@ use Rattle.dispatcher.specs.Pick.{serverAt}
 use Rattle.finish.specs.Finish.{isOpen, finishList}
 use Rattle.judgement.specs.FitLaws.{Fit}
 use Rattle.moments.specs.Moments.{history}
-use Rattle.sizes.specs.Sizes.{clockEnd, mostServers}
+use Rattle.sizes.specs.Sizes.{clockEnd, mostArrivals, mostServers}
 use Rattle.summary.specs.Summary.{finishes}
 use Rattle.trace.specs.Trace.{trace}
 use Rattle.trace.specs.Written.{written}
@@ -66,7 +66,10 @@ start-requires c κs = c .before .before .before .before .before .before .before
 line-up-requires : tie.Need-line-up-requires Inv-loop2 μ-loop2 Inv-loop μ-loop
 line-up-requires c κs = (
   c .before .before .before .before .before .before .before .before .before .before .before .pre .0,
-  (ap (replicate mostServers) (arrivals-read _ (c .before .before .before .before .before .before .before .header-of .ensures)), refl),
+  (
+    ap (replicate mostServers) (arrivals-read _ (c .before .before .before .before .before .before .before .header-of .ensures)),
+    length-replicate {A = ℕ} mostArrivals 0,
+  ),
 )
 
 at-rest-requires : tie.Need-at-rest-requires Inv-loop2 μ-loop2 Inv-loop μ-loop
@@ -385,7 +388,7 @@ went : (g : tie.After-go Inv-loop2 μ-loop2 Inv-loop μ-loop)
     (g .go .last .1 .1 .1 .0)
     (g .go .result .current)
     (g .go .result .server)
-    (g .go .result .ticks)
+    (g .go .result .gone)
 went g =
     subst
     (λ (rest : ℕ).
@@ -402,15 +405,15 @@ went g =
     (g .go .last .1 .1 .1 .0)
     (g .go .result .current)
     (g .go .result .server)
-    (g .go .result .ticks))
+    (g .go .result .gone))
     (opening g .left-of .ensures .rest-is)
     (g .go .ensures)
 
 -- it ends by the next arrival, and takes some time
-by-next : (g : tie.After-go Inv-loop2 μ-loop2 Inv-loop μ-loop) → g .go .result .ticks ≤ next (opening g) - now (opening g)
+by-next : (g : tie.After-go Inv-loop2 μ-loop2 Inv-loop μ-loop) → g .go .result .gone ≤ next (opening g) - now (opening g)
 by-next g = went g .planned .gone-room
 
-takes-time : (g : tie.After-go Inv-loop2 μ-loop2 Inv-loop μ-loop) → 0 < g .go .result .ticks
+takes-time : (g : tie.After-go Inv-loop2 μ-loop2 Inv-loop μ-loop) → 0 < g .go .result .gone
 takes-time g = omega (arith, went g .planned .some, went g .planned .gone-is)
 
 add-t : tie.Need-add-t Inv-loop2 μ-loop2 Inv-loop μ-loop
