@@ -1,5 +1,5 @@
 # shellcheck shell=bash
-# Read by the scripts of this folder: their options, the programs that they measure, and how that is done. Such a script says
+# Read by the scripts of this folder that measure programs: their options, the programs that they measure, and how that is done. Such a script says
 # what it does in a function `help`, keeps the caller's folder in `from`, and goes to the top folder before it reads this.
 
 misused() {
@@ -32,8 +32,8 @@ take_options() { # CRATE of the program that is measured, [OPTION..]
 	done
 }
 
-# Makes the folder $work with the work files in it. The programs come one by one, the first being what is measured: a program, with a
-# word where it takes one, and a heading.
+# Makes the folder $work with the work files in it. The programs come one by one, the first being the one whose output the others are
+# held to: a program, with a word where it takes one, and a heading.
 set_up() { # SOURCE of the program that writes the files, [WORD]
 	. tools/toolchain.sh
 	[[ ! ${runs+said} || $runs =~ ^[1-9][0-9]*$ ]] || fail "--runs takes a count from 1 on"

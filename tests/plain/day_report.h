@@ -378,7 +378,7 @@ static int write_text(int to)
     return 1;
 }
 
-// The whole program, with the run that it takes. Answers its status.
+// The whole program, with the run that it takes; `inline`, since expected.c does without it. Answers its status.
 static inline int report_of_input(void (*run)(void))
 {
     if (!read_file(0))

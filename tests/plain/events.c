@@ -2,7 +2,8 @@
 //
 // It prints what report.c prints, for every file; tests/differential holds it to that. day_report.h has all that is not the run
 // itself. Here the clock goes from one event to the next: the server that has the node gets at once all the ticks up to the
-// end of its budget, the end of its work, the next arrival or the horizon, and time in which nobody has work is one step.
+// end of its budget, the end of its work, the next arrival or the horizon, one that is postponed and still comes first goes on budget
+// by budget, and time in which nobody has work is one step.
 
 #include "day_report.h"
 
@@ -92,7 +93,7 @@ static void serve_jobs(u32 s, u64 from, u64 to)
         from += left_of_job[job];
         finish_job(job, from);
         if (waiting[s] == 0 && from == to)
-            return;
+            return; // the queue is empty: there is no next job
         first_job[s] = job = next_job[job];
     }
     left_of_job[job] -= to - from;
@@ -112,7 +113,7 @@ static void postpone(u32 s)
 static u64 spend_whole_budgets(u32 s, u64 now, u64 end)
 {
     u64 q = budget[s], t = period[s], under = deadline[s], others = key_of_others(s), spent = 0;
-    left_behind = end - now;
+    left_behind = end - now; // whether work waits is asked, and not how much
     end_segment(now);
     for (; now + q < end && key_under(under, s) < others; now += q, under += t, spent++)
         if (segment_count + spent < MOST_SHOWN)
