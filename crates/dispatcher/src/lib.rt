@@ -3,9 +3,6 @@
 // opening hands out a dispatcher within them and every move keeps it there, so that a caller has nothing to check.
 mod picking;
 mod places;
-mod refilling;
-mod serving;
-mod taking;
 
 ghost use mathlib.Core.Path.{_≡_};
 ghost use Prim.Native.Nat.{_<_};
@@ -70,7 +67,7 @@ pub fn arrival(d: Dispatcher, server: usize, cost: Length) -> Arrived
             dispatcher: d,
         };
     }
-    let taken = places::with_server(d, server, taking::take(s, d.clock, cost));
+    let taken = places::with_server(d, server, steps::take(s, d.clock, cost));
     Arrived {
         answer: Verdict::Accepted,
         dispatcher: taken,
@@ -111,20 +108,19 @@ fn run(d: Dispatcher, i: usize) -> Ticked
         deadline,
         postponed: s.remaining.ticks == 1,
     };
-    let served = places::with_server(d, i, serving::serve(s));
+    let served = places::with_server(d, i, steps::serve(s));
     pass(served, answer)
 }
 
 // Step 4 of a moment: its clock goes on, and the tick is answered.
-fn pass(d: Dispatcher, answer: TickAnswer) -> Ticked
+fn pass(mut d: Dispatcher, answer: TickAnswer) -> Ticked
     requires { ⌜ d .clock .tick < clockEnd ⌝ }
     ensures { λ r. ⌜ tickSays r ≡ record { answer = turnOf answer; dispatcher = oneLater d } ⌝ }
 {
     let later = clock::later(d.clock, Length { ticks: 1 });
-    let mut next = d;
-    next.clock = later;
+    d.clock = later;
     Ticked {
         answer,
-        dispatcher: next,
+        dispatcher: d,
     }
 }

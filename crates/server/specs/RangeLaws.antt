@@ -1,6 +1,6 @@
 -- Every move keeps a server's numbers within their ranges.
 use Prim.Native.Nat.{_+_, _*_, _≤_}
-use lib.Dec.{eqb, lit≤}
+use lib.Dec.{eqb}
 use mathlib.Core.Bool.{Bool, true, false, cond}
 use mathlib.Core.Logic.{inl, inr, ⊎-elim}
 use mathlib.Core.Path.{_≡_, refl}
@@ -10,7 +10,7 @@ use borrow.Author.Tests.{eqb-true, eqb-false}
 use Rattle.booking.specs.declared.Booking.{Booking}
 use Rattle.clock.specs.declared.Length.{Length}
 use Rattle.clock.specs.declared.Moment.{Moment}
-use Rattle.clock.specs.Clock.{lastTick, moment, until}
+use Rattle.clock.specs.Clock.{lastTick, moment}
 use Rattle.sizes.specs.Sizes.{clockEnd, mostFrame, mostWaiting}
 use Rattle.server.specs.declared.Server.{Server}
 use Rattle.server.specs.MoveLaws.{keeps-ahead, arrived-busy, arrived-renewed, arrived-kept}
@@ -122,17 +122,10 @@ served-ranged s t r w = go (spent (oneTickLess s)) refl
           charged = inl (pos-of-ne-zero (eqb-false _ _ e));
         }
 
--- Within their ranges the numbers that the moves work out fit 64 bits.
+-- Within their ranges every deadline, and the next, fits 64 bits.
 module _ {t : Moment} {s : Server} (r : Ranged t s) (h : t .tick ≤ clockEnd) where
   pub deadline-below : s .deadline .tick ≤ mostFrame * (clockEnd + 1)
   deadline-below = le-trans (r .deadline) (mul-le-mul {m₂ = clockEnd + 1} (r .period) (omega arith))
-
-  pub ahead-fits : until t (s .deadline) .ticks * s .budget .ticks ≤ lastTick
-  ahead-fits =
-      le-trans (mul-le-mul {n₂ = mostFrame * (clockEnd + 1)} {m₂ = mostFrame} (omega (arith, deadline-below)) (omega arith)) (lit≤ tt)
-
-  pub remaining-fits : s .remaining .ticks * s .period .ticks ≤ lastTick
-  remaining-fits = le-trans (mul-le-mul {n₂ = mostFrame} {m₂ = mostFrame} (omega arith) (r .period)) (lit≤ tt)
 
   pub deadline-fits : s .deadline .tick + s .period .ticks ≤ lastTick
   deadline-fits = omega (arith, deadline-below)

@@ -1,5 +1,5 @@
 // A server: its booking, and what it holds from one moment to the next. How a moment changes it is defined in `specs/`;
-// the moves that do so are the dispatcher's.
+// the moves that do so are those of `steps`, and the dispatcher's.
 ghost use mathlib.Core.Path.{_≡_};
 ghost use Rattle.server.specs.Server.{fresh, blank};
 use booking::Booking;

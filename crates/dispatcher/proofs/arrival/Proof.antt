@@ -9,6 +9,7 @@ use Rattle.arrival.specs.Arrival.{faulty}
 use Rattle.arrival.specs.ArrivalLaws.{sound}
 use Rattle.server.specs.Ranges.{Ranged}
 use Rattle.sizes.specs.Sizes.{mostServers, mostWaiting}
+use Rattle.steps.specs.StepLaws.{arrival-ranged}
 use Rattle.dispatcher.specs.MoveLaws.{arrival-faulty, arrival-too-much, arrival-whole, arrival-within, and-within}
 use Rattle.dispatcher.proofs.arrival.Statement.{statement}
 use Rattle.dispatcher.proofs.arrival.Tie as tie
@@ -58,8 +59,7 @@ fits : (c : tie.Else2)
 fits c = omega (arith, c .if2 .left, ranged (c .before .before .before) .waiting)
 
 take-requires : tie.Need-take-requires
-take-requires c κs =
-    (ranged (c .before .before .before), (c .before .before .before .before .before .before .pre .clock, fits c))
+take-requires c κs = search needs
 
 with-server-requires : tie.Need-with-server-requires
 with-server-requires c κs = below (c .before .before .before .before .before)
@@ -70,7 +70,11 @@ returns-3 c =
     let read = past .before .before .before in
     let a = read .before .before .before .args in
     and-within (arrival-within (read .before .before .before .pre) _ _)
-    (rw (c .with-server .ensures, c .before .take .ensures, read .server-at .ensures)
+    (rw (
+      c .with-server .ensures,
+      c .before .take .ensures ∙ arrival-ranged (ranged read) (read .before .before .before .pre .clock) (a .cost) (fits past),
+      read .server-at .ensures,
+    )
     (sym (arrival-whole (a .d) (a .server) (a .cost) (no-fault (read .before)) (rw (sym (read .server-at .ensures)) (fits past)))))
 
 pub arrival-spec : {M : Type 1} → statement M

@@ -6,10 +6,10 @@ use borrow.Author.Tests.{eqb-false, ne-eqb}
 use lib.Dec.{eqb}
 use mathlib.Core.Path.{_≡_, sym, _∙_}
 use native.Mathlib.Decide.{ℕ-discrete}
-use native.Mathlib.Nat.{pos-of-ne-zero}
 use native.Mathlib.Omega.{arith}
-use Rattle.server.specs.RangeLaws.{busy-charged, deadline-fits}
+use Rattle.server.specs.RangeLaws.{busy-charged}
 use Rattle.server.specs.Ranges.{Ranged}
+use Rattle.steps.specs.StepLaws.{tick-ranged}
 use Rattle.dispatcher.specs.Moves.{ran}
 use Rattle.dispatcher.specs.Pick.{serverAt}
 use Rattle.dispatcher.proofs.run.Statement.{statement}
@@ -34,10 +34,7 @@ server-at-requires : tie.Need-server-at-requires
 server-at-requires c κs = search needs
 
 serve-requires : tie.Need-serve-requires
-serve-requires c κs =
-    let start = c .before .before .before in
-    rw (c .before .before .server-at .ensures)
-    (busy-charged (ranged start) (works start), (pos-of-ne-zero (works start), deadline-fits (ranged start) (start .pre .0 .clock)))
+serve-requires c κs = search needs
 
 with-server-requires : tie.Need-with-server-requires
 with-server-requires c κs = search needs
@@ -54,6 +51,7 @@ returns c =
       c .before .with-server .ensures,
       c .before .before .serve .ensures,
       c .before .before .before .before .before .server-at .ensures,
+      tick-ranged (ranged start) (start .pre .0 .clock) (works start),
       last-left _ (busy-charged (ranged start) (works start)),
     )
 

@@ -1,18 +1,17 @@
-// Step 1 of a moment, at one server: it takes the work of an arrival, and wakes where it was idle.
+// A server takes the work of an arrival, once it is known that every number of that fits.
 ghost use mathlib.Core.Path.{_≡_};
 ghost use Prim.Native.Nat.{_+_, _≤_};
 ghost use Rattle.server.specs.Moves.{renews, arrived};
-ghost use Rattle.server.specs.Ranges.{Ranged};
-ghost use Rattle.sizes.specs.Sizes.{clockEnd, mostWaiting};
-use crate::refilling;
+ghost use Rattle.sizes.specs.Sizes.{mostWaiting};
+ghost use Rattle.steps.specs.StepLaws.{Fits};
+use crate::refill;
 use clock::Length;
 use clock::Moment;
 use server::Server;
 
 // The server with the work, and renewed where it was idle and its budget and deadline are not kept.
-pub(crate) fn take(s: Server, now: Moment, cost: Length) -> Server
-    requires { ⌜ Ranged now s ⌝ }
-    requires { ⌜ now .tick ≤ clockEnd ⌝ }
+pub(crate) fn arrive(s: Server, now: Moment, cost: Length) -> Server
+    requires { ⌜ Fits s now ⌝ }
     requires { ⌜ s .waiting .ticks + cost .ticks ≤ mostWaiting ⌝ }
     ensures { λ r. ⌜ r ≡ arrived s now cost ⌝ }
 {
@@ -21,7 +20,7 @@ pub(crate) fn take(s: Server, now: Moment, cost: Length) -> Server
     };
     let mut kept = s;
     kept.waiting = waiting;
-    let renewed = refilling::refill(kept, clock::later(now, s.period));
+    let renewed = refill(kept, clock::later(now, s.period));
     if s.waiting.ticks != 0 {
         return kept;
     }
@@ -31,11 +30,9 @@ pub(crate) fn take(s: Server, now: Moment, cost: Length) -> Server
     kept
 }
 
-// Whether a server that wakes now renews. Both products fit: c and Q are at most T, T at most 604,800, and the deadline lies at
-// most T times the length of the clock ahead.
+// Whether a server that wakes now renews.
 fn is_renewed(s: Server, now: Moment) -> bool
-    requires { ⌜ Ranged now s ⌝ }
-    requires { ⌜ now .tick ≤ clockEnd ⌝ }
+    requires { ⌜ Fits s now ⌝ }
     ensures { λ r. ⌜ r ≡ renews s now ⌝ }
 {
     if s.deadline.tick <= now.tick {

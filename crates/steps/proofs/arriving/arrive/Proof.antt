@@ -1,4 +1,4 @@
--- `dispatcher::taking::take` meets its promise: its three ways are the three laws of an arrival, busy, renewed and kept, and t + T
+-- `steps::arriving::arrive` meets its promise: its three ways are the three laws of an arrival, busy, renewed and kept, and t + T
 -- fits, so that the moment that `later` shows is the sum.
 use borrow.Author.Needs.{needs}
 use mathlib.Core.Path.{sym, _∙_, ap}
@@ -6,8 +6,8 @@ use native.Mathlib.Omega.{arith}
 use Rattle.clock.specs.Clock.{shown-whole}
 use Rattle.server.specs.MoveLaws.{arrived-busy, arrived-renewed, arrived-kept}
 use Rattle.server.specs.Moves.{withWork, refilled}
-use Rattle.dispatcher.proofs.taking.take.Statement.{statement}
-use Rattle.dispatcher.proofs.taking.take.Tie as tie
+use Rattle.steps.proofs.arriving.arrive.Statement.{statement}
+use Rattle.steps.proofs.arriving.arrive.Tie as tie
 
 add-waiting : tie.Need-add-t7
 add-waiting c = search needs
@@ -30,12 +30,12 @@ returns-2 c =
     let start = refilling .before .before .before .before in
     refilling .refill .ensures
     ∙ ap (refilled (withWork (start .args .s) (start .args .cost)))
-    (refilling .before .later .ensures ∙ shown-whole _ (omega (arith, start .pre .0 .period, start .pre .1 .0)))
+    (refilling .before .later .ensures ∙ shown-whole _ (omega (arith, start .pre .0 .period, start .pre .0 .moment)))
     ∙ sym (arrived-renewed _ _ _ (c .before .before .if1 .left) (sym (c .before .is-renewed .ensures) ∙ c .if2 .taken))
 
 returns-3 : tie.Need-returns-3
 returns-3 c = sym (arrived-kept _ _ _ (c .before .before .if1 .left) (sym (c .before .is-renewed .ensures) ∙ c .if2 .left))
 
-pub take-spec : {M : Type 1} → statement M
-take-spec =
+pub arrive-spec : {M : Type 1} → statement M
+arrive-spec =
     tie.close (tie.spec add-waiting later-requires refill-requires returns is-renewed-requires returns-2 returns-3)

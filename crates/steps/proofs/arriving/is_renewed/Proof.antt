@@ -1,12 +1,12 @@
--- `dispatcher::taking::is_renewed` meets its promise: a deadline that has passed is the definition's second test; ahead of it only the
+-- `steps::arriving::is_renewed` meets its promise: a deadline that has passed is the definition's second test; ahead of it only the
 -- first is left, and both its products fit.
 use borrow.Author.Needs.{needs}
 use mathlib.Core.Path.{sym}
 use native.Mathlib.Omega.{arith}
 use Rattle.server.specs.MoveLaws.{renews-passed, renews-is}
-use Rattle.server.specs.RangeLaws.{ahead-fits, remaining-fits}
-use Rattle.dispatcher.proofs.taking.is_renewed.Statement.{statement}
-use Rattle.dispatcher.proofs.taking.is_renewed.Tie as tie
+use Rattle.steps.specs.StepLaws.{ahead-fits, remaining-fits}
+use Rattle.steps.proofs.arriving.is_renewed.Statement.{statement}
+use Rattle.steps.proofs.arriving.is_renewed.Tie as tie
 
 returns : tie.Need-returns
 returns c = sym (renews-passed _ _ (c .if1 .taken))
@@ -17,12 +17,12 @@ until-requires c κs = search needs
 mul-result : tie.Need-mul-result
 mul-result c =
     let pre = c .before .before .before .before .before .before .pre in
-    rw (c .before .before .until .ensures) (omega (arith, ahead-fits (pre .0) (pre .1)))
+    rw (c .before .before .until .ensures) (omega (arith, ahead-fits pre))
 
 mul-result-2 : tie.Need-mul-result-2
 mul-result-2 c =
     let pre = c .before .before .before .before .before .before .before .pre in
-    omega (arith, remaining-fits (pre .0) (pre .1))
+    omega (arith, remaining-fits pre)
 
 returns-2 : tie.Need-returns-2
 returns-2 c =

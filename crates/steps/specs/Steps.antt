@@ -1,0 +1,37 @@
+-- What steps 1 and 3 of a moment make of any server. Step 1 is document 01's (`Rattle.server.specs.Moves`) unless something is beyond or
+-- the work is too much, step 3 unless the server is unserved; else the server stays as it is. A dispatcher takes neither step there
+-- (`arrival-ranged`, `tick-ranged`).
+use Prim.Native.Nat.{ℕ, _+_, _*_}
+use lib.Dec.{ltb}
+use mathlib.Core.Bool.{Bool, cond, _||_}
+use Rattle.clock.specs.declared.Length.{Length}
+use Rattle.clock.specs.declared.Moment.{Moment}
+use Rattle.clock.specs.Clock.{lastTick, later}
+use Rattle.server.specs.declared.Server.{Server}
+use Rattle.server.specs.Moves.{arrived, served, spent}
+use Rattle.server.specs.Server.{idle}
+use Rattle.sizes.specs.Sizes.{clockEnd, mostFrame, mostWaiting}
+
+-- no deadline of a dispatcher is later: the first lies at most T ahead, each of at most 2,419,200 ticks postpones by T, and T is at most
+-- 604,800
+abbrev pub lastDeadline : ℕ
+lastDeadline = mostFrame * (clockEnd + 1)
+
+-- a moment behind the end of the clock, T above 604,800, Q above T, c above Q, or a later deadline
+unfoldable pub beyond : Server → Moment → Bool
+beyond s t =
+    ltb clockEnd (t .tick) || ltb mostFrame (s .period .ticks) || ltb (s .period .ticks) (s .budget .ticks)
+    || ltb (s .budget .ticks) (s .remaining .ticks) || ltb lastDeadline (s .deadline .tick)
+
+-- step 1, where nothing is beyond and w stays within 4,294,967,295
+unfoldable pub afterArrival : Server → Moment → Length → Server
+afterArrival s t cost =
+    cond (beyond s t || ltb mostWaiting (s .waiting .ticks + cost .ticks)) s (arrived s t cost)
+
+-- no work, no budget left, or a next deadline that 64 bits cannot show
+unfoldable pub unserved : Server → Bool
+unserved s = idle s || spent s || ltb lastTick (later (s .deadline) (s .period) .tick)
+
+-- step 3, where there is work and budget, and 64 bits can show the next deadline
+unfoldable pub afterTick : Server → Server
+afterTick s = cond (unserved s) s (served s)
