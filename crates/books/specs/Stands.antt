@@ -93,10 +93,7 @@ module _ {w : Work} {places : ℕ} (fit : Fit w places) where
 
     -- the next arrival is of this moment
     module _ (more : j < w .arrivals) (now : w .arrival j .moment .tick ≡ t) where
-      abbrev i : ℕ
-      i = w .arrival j .server
-
-      room : serverAt d (w .arrival j .server) .waiting .ticks + w .arrival j .cost .ticks ≤ mostWaiting
+      pub room : serverAt d (w .arrival j .server) .waiting .ticks + w .arrival j .cost .ticks ≤ mostWaiting
       room =
           omega (
             arith,
@@ -108,7 +105,7 @@ module _ {w : Work} {places : ℕ} (fit : Fit w places) where
             mul-le-mul-right mostCost (fit .arrivals),
           )
 
-      accepted-as : arrival d (w .arrival j .server) (w .arrival j .cost) .dispatcher
+      pub accepted-as : arrival d (w .arrival j .server) (w .arrival j .cost) .dispatcher
           ≡ withServer d (w .arrival j .server) (arrived (serverAt d (w .arrival j .server)) (d .clock) (w .arrival j .cost))
       accepted-as =
           ap (λ (m : Moved (Unit {0})). m .dispatcher)
@@ -117,7 +114,7 @@ module _ {w : Work} {places : ℕ} (fit : Fit w places) where
           (not-faulty (w .table .count) (w .arrival j .server) (w .arrival j .cost) (fit .sound j more)))
           room)
 
-      pub arrival-other : (k : ℕ) → (k ≡ w .arrival j .server → ⊥)
+      arrival-other : (k : ℕ) → (k ≡ w .arrival j .server → ⊥)
           → serverAt (arrival d (w .arrival j .server) (w .arrival j .cost) .dispatcher) k ≡ serverAt d k
       arrival-other k n =
           ap (λ (x : Dispatcher). serverAt x k) accepted-as

@@ -15,8 +15,7 @@ use Rattle.judgement.specs.FitLaws.{Fit}
 use Rattle.records.specs.Records.{recordOf, recordsOf, filledAt, filled}
 use Rattle.records.specs.RecordsLaws.{records-of-run}
 use Rattle.sizes.specs.Sizes.{mostServers}
-use Rattle.summary.specs.declared.Summary.{Summary}
-use Rattle.summary.specs.Summary.{blank, isJob, arrivedOf, finishedOf, responses, finishes, summaryOf, summaries}
+use Rattle.summary.specs.Summary.{blank, isJob, arrivedOf, finishes, summaryOf, summaries}
 use Rattle.summary.specs.SummaryLaws.{finished-none, responses-none}
 use Rattle.workfile.specs.Work.{Work}
 use Rattle.books.specs.Came.{Came}

@@ -1,67 +1,66 @@
 -- The arrivals of a moment are taken, one after the other.
-use Prim.Native.Nat.{ℕ, suc, _+_, _*_, _≤_, _<_}
+use Prim.Native.Nat.{ℕ, suc, _+_, _≤_, _<_}
+use lib.Seq.{getD-set-same, getD-set-other}
 use mathlib.Core.List.{List}
-use mathlib.Core.Path.{_≡_, sym, _∙_, ap, subst, subst⁻¹}
+use mathlib.Core.Path.{_≡_, sym, _∙_, ap, subst⁻¹}
 use native.Mathlib.Decide.{decLt}
 use native.Mathlib.Nat.{le-refl, le-antisymm}
 use native.Mathlib.Omega.{arith}
 use Rattle.arrival.specs.declared.Arrival.{Arrival}
-use Rattle.clock.specs.Clock.{lastTick}
 use Rattle.dispatcher.specs.declared.Dispatcher.{Dispatcher}
-use Rattle.dispatcher.specs.Moves.{arrival}
+use Rattle.dispatcher.specs.Moves.{withServer}
 use Rattle.dispatcher.specs.Pick.{serverAt}
-use Rattle.dispatcher.specs.Within.{Within}
 use Rattle.judgement.specs.FitLaws.{Fit}
-use Rattle.server.specs.RangeLaws.{deadline-below}
-use Rattle.sizes.specs.Sizes.{clockEnd}
+use Rattle.server.specs.declared.Server.{Server}
+use Rattle.server.specs.Moves.{arrived}
+use Rattle.server.specs.Ranges.{Ranged}
+use Rattle.server.specs.Server.{blank}
+use Rattle.sizes.specs.Sizes.{clockEnd, mostWaiting}
 use Rattle.workfile.specs.Work.{Work}
 use Rattle.books.specs.Accepted.{nextMoment, next-arrival, next-horizon}
 use Rattle.books.specs.Keys.{keyOf, Keyed, keyed-set}
-use Rattle.books.specs.Stands.{Stands, stands-within, stands-count, stands-arrival, arrival-other}
+use Rattle.books.specs.Stands.{Stands, stands-within, stands-count, room, accepted-as, stands-arrival}
 use Rattle.books.specs.Winners.{Set}
 
--- arrival j was taken by d, which is e then: only its server i differs, and the key of that one fits 64 bits
-pub record TookOne (w : Work) (t j i : ℕ) (d e : Dispatcher) : Type 0 where
-  pub stands : Stands w t (suc j) e
-  pub known : i < 64
-  pub others : (k : ℕ) → (k ≡ i → ⊥) → serverAt e k ≡ serverAt d k
-  pub key-fits : serverAt e i .deadline .tick * 64 + i ≤ lastTick
+-- What is known of arrival a, which is the next and is taken now: its server has a place, its numbers are in their ranges and have room for
+-- the work; and with that server as it is then the dispatcher stands behind the arrival, and a tree in which its key is set is that dispatcher's.
+pub record Takes (w : Work) (t j : ℕ) (d : Dispatcher) (a : Arrival) : Type 0 where
+  pub place : a .server < 64
+  pub ranged : Ranged (d .clock) (serverAt d (a .server))
+  pub has-room : serverAt d (a .server) .waiting .ticks + a .cost .ticks ≤ mostWaiting
+  pub stands : (s : Server) → s ≡ arrived (serverAt d (a .server)) (d .clock) (a .cost)
+      → Stands w t (suc j) (withServer d (a .server) s)
+  pub keyed : {keys after : List ℕ} (s : Server) → Keyed keys d → Set keys after (a .server) (keyOf s (a .server))
+      → Keyed after (withServer d (a .server) s)
 
--- with that key set the tree is right again
-pub one-keyed : {w : Work} {t j i key : ℕ} {d e : Dispatcher} {keys after : List ℕ} → TookOne w t j i d e → Keyed keys d
-    → key ≡ keyOf (serverAt e i) i → Set keys after i key → Keyed after e
-one-keyed {i = i} {keys = keys} {after = after} one keyed key-is key-set =
-    keyed-set i keyed (one .others) (subst (Set keys after i) key-is key-set)
+module _ {w : Work} {places t j : ℕ} {d : Dispatcher} (fit : Fit w places) (s : Stands w t j d) (end : t ≤ clockEnd)
+    (more : j < w .arrivals) (due : w .arrival j .moment .tick ≤ t) (a : Arrival) (read : a ≡ w .arrival j) where
+  now : w .arrival j .moment .tick ≡ t
+  now = le-antisymm due (s .ahead j (le-refl j) more)
 
-module _ {w : Work} {places t j : ℕ} {d : Dispatcher} (fit : Fit w places) (s : Stands w t j d) where
-  -- arrival j as it was read, which is not later than t
-  module _ (end : t ≤ clockEnd) (more : j < w .arrivals) (a : Arrival) (read : a ≡ w .arrival j) (due : a .moment .tick ≤ t) where
-    now : w .arrival j .moment .tick ≡ t
-    now = le-antisymm (omega (arith, due, ap (λ (x : Arrival). x .moment .tick) read)) (s .ahead j (le-refl j) more)
+  known : a .server < d .count
+  known = omega (arith, ap (λ (x : Arrival). x .server) read, stands-count fit s end, fit .sound j more .known)
 
-    server-is : a .server ≡ w .arrival j .server
-    server-is = ap (λ (x : Arrival). x .server) read
-
-    module _ (e : Dispatcher) (answer : e ≡ arrival d (a .server) (a .cost) .dispatcher) where
-      answer-is : e ≡ arrival d (w .arrival j .server) (w .arrival j .cost) .dispatcher
-      answer-is = answer ∙ ap (λ (x : Arrival). arrival d (x .server) (x .cost) .dispatcher) read
-
-      after : Stands w t (suc j) e
-      after = subst⁻¹ (Stands w t (suc j)) answer-is (stands-arrival fit s end more now)
-
-      known-after : a .server < e .count
-      known-after = omega (arith, server-is, stands-count fit after end, fit .sound j more .known)
-
-      pub took-one : TookOne w t j (a .server) d e
-      took-one =
-          let ok : Within e = stands-within fit after end in
-          record {
-            stands = after;
-            known = omega (arith, known-after, ok .count);
-            others =
-                λ k n. ap (λ (x : Dispatcher). serverAt x k) answer-is ∙ arrival-other fit s end more now k (λ q. n (q ∙ sym server-is));
-            key-fits = omega (arith, deadline-below (ok .servers (a .server) known-after) (ok .clock), known-after, ok .count);
-          }
+  pub takes : Takes w t j d a
+  takes =
+      record {
+        place = omega (arith, known, stands-within fit s end .count);
+        ranged = stands-within fit s end .servers (a .server) known;
+        has-room =
+            subst⁻¹ (λ (x : Arrival). serverAt d (x .server) .waiting .ticks + x .cost .ticks ≤ mostWaiting) read
+            (room fit s end more now);
+        stands = λ server is.
+            subst⁻¹ (Stands w t (suc j))
+            (ap (withServer d (a .server)) is
+            ∙ ap (λ (x : Arrival). withServer d (x .server) (arrived (serverAt d (x .server)) (d .clock) (x .cost))) read
+            ∙ sym (accepted-as fit s end more now))
+            (stands-arrival fit s end more now);
+        keyed = λ {keys} {after} server of-d key-set.
+            keyed-set (a .server) of-d (λ k n. getD-set-other (d .servers) (a .server) k server blank n)
+            (subst⁻¹ (λ (x : Server). Set keys after (a .server) (keyOf x (a .server)))
+            (getD-set-same (d .servers) (a .server) server blank (omega (arith, known, stands-within fit s end .count, stands-within fit s end .places)))
+            key-set);
+      }
 
 -- while they are taken: from j on to k, with the moment of the next
 pub record Taking (w : Work) (t j : ℕ) (d : Dispatcher) (keys : List ℕ) (k next : ℕ) : Type 0 where

@@ -1,9 +1,12 @@
-// A run from event to event, to the horizon. The dispatcher and the books are locals of the loop, and a spell is handed one server: handing
-// all of them on at each spell would take longer than all the rest. An arrival is the dispatcher's own move, which takes it by value.
+// A run from event to event, to the horizon.
 ghost use Prim.Native.Nat.{_≤_};
 ghost use lib.ListN.{length};
+ghost use mathlib.Core.Path.{_≡_};
 ghost use Rattle.books.specs.Accepted.{Accepted};
 ghost use Rattle.books.specs.Came.{Came};
+ghost use Rattle.books.specs.Lined.{Lined};
+ghost use Rattle.finish.specs.Finish.{finishList, isOpen};
+ghost use Rattle.moments.specs.Moments.{atMoment};
 ghost use Rattle.workfile.specs.Work.{work};
 use crate::jobs;
 use crate::reading;
@@ -12,6 +15,7 @@ use crate::starting;
 use crate::stretches;
 use crate::taking;
 use clock::Moment;
+use dispatcher::Dispatcher;
 
 pub struct Travelled {
     pub segments: usize,
@@ -19,24 +23,54 @@ pub struct Travelled {
     pub interrupted: [u64; sizes::MOST_SERVERS],
 }
 
-// Segments go into the list as they end, and finishes as they come.
+// Every job is opened, those of each server are lined up, and the run goes from its start to the horizon.
 pub(crate) fn travel(file: &[u8], list: &mut [u64], finishes: &mut [u32]) -> Travelled
     requires { ⌜ Accepted (now file) ⌝ }
     requires { ⌜ work (now file) .arrivals ≤ length (now finishes) ⌝ }
     ensures { λ r. ⌜ Came (work (now (file .entry))) (now (list .entry)) (now (finishes .entry)) (now (list .exit)) (now (finishes .exit)) (r .segments) (r .postponed) (r .interrupted) ⌝ }
 {
     let h = workfile::header_of(file);
-    let horizon = h.horizon.tick;
     let arrivals = h.arrivals.count;
+    let horizon = h.horizon.tick;
     jobs::open_all(finishes, arrivals);
-    let mut d = starting::start(file);
-    // The winner tree, in which an idle server has the last number of all for its key.
-    let mut keys = [clock::LAST_TICK; 128];
-    // The job that each server serves, what is left of it, and the job behind each.
+    // The job that each server serves, and the job behind each.
     let mut job = [arrivals; sizes::MOST_SERVERS];
-    let mut left = [0; sizes::MOST_SERVERS];
     let mut behind = [0; sizes::MOST_ARRIVALS];
     jobs::line_up(file, &mut job, &mut behind);
+    to_horizon(
+        file,
+        list,
+        finishes,
+        horizon,
+        starting::start(file),
+        &mut job,
+        &behind,
+    )
+}
+
+// The run from its start, every job being open. Segments go into the list as they end, and finishes as they come. The dispatcher stays in
+// this function, and a spell or an arrival is handed one server: handing all of them on at each would take longer than all the rest.
+fn to_horizon(
+    file: &[u8],
+    list: &mut [u64],
+    finishes: &mut [u32],
+    horizon: u64,
+    mut d: Dispatcher,
+    job: &mut [usize; sizes::MOST_SERVERS],
+    behind: &[usize; sizes::MOST_ARRIVALS],
+) -> Travelled
+    requires { ⌜ Accepted (now file) ⌝ }
+    requires { ⌜ work (now file) .arrivals ≤ length (now finishes) ⌝ }
+    requires { ⌜ now finishes ≡ finishList (work (now file) .arrivals) (λ k. isOpen) (now finishes) ⌝ }
+    requires { ⌜ horizon ≡ work (now file) .horizon .tick ⌝ }
+    requires { ⌜ d ≡ atMoment (work (now file)) 0 ⌝ }
+    requires { ⌜ Lined (work (now file)) 0 (now job) (now behind) ⌝ }
+    ensures { λ r. ⌜ Came (work (now (file .entry))) (now (list .entry)) (now (finishes .entry)) (now (list .exit)) (now (finishes .exit)) (r .segments) (r .postponed) (r .interrupted) ⌝ }
+{
+    // The winner tree, in which an idle server has the last number of all for its key.
+    let mut keys = [clock::LAST_TICK; 128];
+    // What is left of the job that each server serves.
+    let mut left = [0; sizes::MOST_SERVERS];
     let mut postponed = [0; sizes::MOST_SERVERS];
     let mut interrupted = [0; sizes::MOST_SERVERS];
     let mut c = stretches::at_rest();
@@ -46,7 +80,10 @@ pub(crate) fn travel(file: &[u8], list: &mut [u64], finishes: &mut [u32]) -> Tra
     let mut next = reading::next_moment(file, 0);
     while t < horizon {
         while next <= t {
-            d = taking::take(file, &mut keys, d, j);
+            let a = reading::arrival_of(file, j);
+            let i = a.server;
+            let taken = taking::take(&mut keys, i, d.servers[i], d.clock, a.cost);
+            d.servers[i] = taken;
             j += 1;
             next = reading::next_moment(file, j);
         }
@@ -58,7 +95,7 @@ pub(crate) fn travel(file: &[u8], list: &mut [u64], finishes: &mut [u32]) -> Tra
             d.clock = now;
         } else {
             let i = (key % 64) as usize;
-            let rest = jobs::left_of(file, &job, &mut left, i);
+            let rest = jobs::left_of(file, job, &mut left, i);
             let g = spell::go(
                 list,
                 &mut keys,
@@ -73,13 +110,12 @@ pub(crate) fn travel(file: &[u8], list: &mut [u64], finishes: &mut [u32]) -> Tra
             );
             let ticks = g.gone;
             let server = g.server;
-            let current = g.current;
-            c = current;
+            c = g.current;
             d.servers[i] = server;
             t += ticks;
             let now = Moment { tick: t };
             d.clock = now;
-            jobs::go_on(finishes, &behind, &mut job, &mut left, i, ticks, t);
+            jobs::go_on(finishes, behind, job, &mut left, i, ticks, t);
         }
     }
     let segments = stretches::end_segment(list, c, t);

@@ -1,9 +1,9 @@
 -- `run::jobs::line_up` meets its promise: each turn puts one arrival more before those that are lined up.
 use Prim.Native.Nat.{ℕ, suc, _-_, _≤_, _<_}
 use borrow.Author.Needs.{needs}
-use lib.ListN.{length, getD, set, length-replicate}
+use lib.ListN.{getD, set}
 use mathlib.Core.List.{List}
-use mathlib.Core.Path.{_≡_, sym, _∙_, ap, subst, subst⁻¹, subst₂}
+use mathlib.Core.Path.{_≡_, sym, ap, subst, subst⁻¹, subst₂}
 use native.Mathlib.Omega.{arith}
 use Rattle.arrival.specs.declared.Arrival.{Arrival}
 use Rattle.books.specs.Accepted.{arrivals-read}
