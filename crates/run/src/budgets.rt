@@ -29,14 +29,15 @@ pub(crate) fn further(keys: &[u64; 128], i: usize, s: Server, spare: u64) -> u64
     let budget = s.budget.ticks;
     let period = s.period.ticks;
     let own = s.deadline.tick * 64 + i as u64;
+    // The least key of the half of the servers that i is not of. Asked first, as it nearly always ends as it did the time before: with more
+    // than 32 servers at work that half mostly has an earlier key, with at most 32 never.
+    if keys[3 - i / 32] <= own {
+        return 0;
+    }
     if s.remaining.ticks < budget {
         return 0;
     }
     if spare <= budget {
-        return 0;
-    }
-    // The least key of the half of the servers that i is not of: mostly it comes first, and the others need not be looked at.
-    if keys[3 - i / 32] <= own {
         return 0;
     }
     let rival = tree::rival(keys, i);

@@ -11,20 +11,20 @@ mul-own c = search needs
 add-own : tie.Need-add-own
 add-own c = search needs
 
+sub-if1 : tie.Need-sub-if1
+sub-if1 c = search needs
+
+mul-if1 : tie.Need-mul-if1
+mul-if1 c = search needs
+
+element-copy-out-if1 : tie.Need-element-copy-out-if1
+element-copy-out-if1 c = search needs
+
 returns : tie.Need-returns
 returns c = further-none _ _ _ _
 
 returns-2 : tie.Need-returns-2
 returns-2 c = further-none _ _ _ _
-
-sub-if3 : tie.Need-sub-if3
-sub-if3 c = search needs
-
-mul-if3 : tie.Need-mul-if3
-mul-if3 c = search needs
-
-element-copy-out-if3 : tie.Need-element-copy-out-if3
-element-copy-out-if3 c = search needs
 
 returns-3 : tie.Need-returns-3
 returns-3 c = further-none _ _ _ _
@@ -47,14 +47,14 @@ fits-in-requires c κs = search needs
 returns-5 : tie.Need-returns-5
 returns-5 c =
     let start = c .before .before .before .before .before .before .before .before .before .before .before in
-    further-some _ _ _ _ (start .pre .1 .1) (c .before .before .before .before .before .before .before .before .if1 .left) (c .before .before .before .before .rival .ensures) (c .before .before .rises .ensures) (c .before .fits-in .ensures)
+    further-some _ _ _ _ (start .pre .1 .1) (c .before .before .before .before .before .before .if2 .left) (c .before .before .before .before .rival .ensures) (c .before .before .rises .ensures) (c .before .fits-in .ensures)
     (omega arith)
     (omega arith)
 
 returns-6 : tie.Need-returns-6
 returns-6 c =
     let start = c .before .before .before .before .before .before .before .before .before .before .before in
-    further-some _ _ _ _ (start .pre .1 .1) (c .before .before .before .before .before .before .before .before .if1 .left) (c .before .before .before .before .rival .ensures) (c .before .before .rises .ensures) (c .before .fits-in .ensures)
+    further-some _ _ _ _ (start .pre .1 .1) (c .before .before .before .before .before .before .if2 .left) (c .before .before .before .before .rival .ensures) (c .before .before .rises .ensures) (c .before .fits-in .ensures)
     (omega arith)
     (omega arith)
 
@@ -64,11 +64,11 @@ further-spec =
     (tie.spec
     mul-own
     add-own
+    sub-if1
+    mul-if1
+    element-copy-out-if1
     returns
     returns-2
-    sub-if3
-    mul-if3
-    element-copy-out-if3
     returns-3
     rival-requires
     returns-4
