@@ -36,14 +36,14 @@ pub fn run(file: &[u8], list: &mut [u64], finishes: &mut [u32]) -> Ran
     ensures { λ r. ⌜ says r (now (list .exit)) (now (finishes .exit)) ≡ outcome (now (file .entry)) (now (list .entry)) (now (finishes .entry)) ⌝ }
 {
     let verdict = judgement::judge(file, finishes.len());
-    match verdict {
-        Verdict::Accepted => play(file, list, finishes),
-        Verdict::Refused(why) => Ran {
-            verdict: Verdict::Refused(why),
+    let Verdict::Accepted = verdict else {
+        return Ran {
+            verdict,
             segments: 0,
             summaries: summary::blank_records(),
-        },
-    }
+        };
+    };
+    play(file, list, finishes)
 }
 
 // The run of an accepted file.
