@@ -3,46 +3,27 @@ use Prim.Native.Nat.{ℕ, suc, _<_, zero-le, min}
 use borrow.Author.Tests.{lt-ltb, le-ltb}
 use lib.Dec.{ltb}
 use lib.ListN.{length, getD, set}
-use lib.Seq.{set-set, getD-set-same}
 use mathlib.Core.Bool.{cond}
 use mathlib.Core.List.{List}
 use mathlib.Core.Path.{_≡_, sym, _∙_, ap}
 use native.Mathlib.Decide.{decLt}
 use native.Mathlib.Omega.{arith}
-use Rattle.counting.specs.Places.{places, length-places, getD-places, places-getD, places-same, set-places}
+use Rattle.counting.specs.Places.{places, getD-places, places-getD, places-same, set-places}
 use Rattle.sizes.specs.Sizes.{mostServers}
 use Rattle.summary.specs.declared.Summary.{Summary}
 use Rattle.summary.specs.Summary.{blank}
 use Rattle.records.specs.Records.{filledAt, filled}
 
--- at a turn the two counts go in one after the other
-abbrev withPostponed : List ℕ → List Summary → ℕ → List Summary
-withPostponed postponed all i =
-    set all i
+-- a record with these two counts
+abbrev pub withCounts : Summary → ℕ → ℕ → Summary
+withCounts s postponed interrupted =
     record {
-      arrived = getD all i blank .arrived;
-      finished = getD all i blank .finished;
-      postponed = getD postponed i 0;
-      interrupted = getD all i blank .interrupted;
-      response = getD all i blank .response;
+      arrived = s .arrived;
+      finished = s .finished;
+      postponed = postponed;
+      interrupted = interrupted;
+      response = s .response;
     }
-
-abbrev withInterrupted : List ℕ → List Summary → ℕ → List Summary
-withInterrupted interrupted all i =
-    set all i
-    record {
-      arrived = getD all i blank .arrived;
-      finished = getD all i blank .finished;
-      postponed = getD all i blank .postponed;
-      interrupted = getD interrupted i 0;
-      response = getD all i blank .response;
-    }
-
--- which is one record changed
-both-counts : (postponed interrupted : List ℕ) (all : List Summary) (i : ℕ) → i < length all
-    → withInterrupted interrupted (withPostponed postponed all i) i ≡ set all i (filledAt postponed interrupted (getD all i blank) i)
-unfolding filledAt
-both-counts postponed interrupted all i b = rw (set-set, getD-set-same _ i _ blank b)
 
 module _ (postponed interrupted : List ℕ) (records : List Summary) where
   -- none at first
@@ -90,8 +71,7 @@ module _ (postponed interrupted : List ℕ) (records : List Summary) where
         go i q (no b) = rw (le-ltb i n (omega arith), le-ltb i (suc n) (omega arith))
 
     pub filled-more : {all : List Summary} → all ≡ filled n postponed interrupted records
-        → withInterrupted interrupted (withPostponed postponed all n) n ≡ filled (suc n) postponed interrupted records
-    unfolding filled
-    filled-more {all} e =
-        both-counts postponed interrupted all n (omega (arith, ap length e ∙ length-places mostServers _))
-        ∙ rw (e, filled-next) filled-one
+        → set all n (withCounts (getD all n blank) (getD postponed n 0) (getD interrupted n 0))
+        ≡ filled (suc n) postponed interrupted records
+    unfolding filledAt
+    filled-more e = rw (e, filled-next) filled-one

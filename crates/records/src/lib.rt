@@ -1,15 +1,16 @@
 // The 64 records of a run, told from its work file and its finish list when the run is over: an array that is handed on in the run's own
-// loop would take longer than the rest of it. What no finish list tells is counted beside, and put in.
+// loop would take longer than the rest of it. What no finish list tells is counted beside, and put in; there the array is handed on, once
+// for each server. A job changes its record in place: handed on for each job, the array would be copied twice a job.
 ghost use mathlib.Core.Path.{_≡_};
 ghost use Prim.Native.Nat.{_+_, _≤_, _<_, max, min};
 ghost use lib.ListN.{getD};
 ghost use Rattle.clock.specs.Clock.{lastTick};
 ghost use Rattle.finish.specs.Finish.{finishOf};
 ghost use Rattle.sizes.specs.Sizes.{mostServers, openJob};
-ghost use Rattle.summary.specs.Summary.{blank};
 ghost use Rattle.summary.specs.SummaryLaws.{totalOf, withResponse};
 ghost use Rattle.workfile.specs.Layout.{header};
 ghost use Rattle.workfile.specs.Work.{work};
+ghost use Rattle.records.specs.FilledLaws.{withCounts};
 ghost use Rattle.records.specs.GrowthLaws.{Roomy, recordsUpTo, withJob};
 ghost use Rattle.records.specs.Records.{filled, recordsOf};
 use clock::Length;
@@ -43,9 +44,8 @@ fn of_arrivals(
         let a = reader::arrival_from(file, from, sizes::ARRIVAL_BYTES * k);
         let i = a.server;
         if i < sizes::MOST_SERVERS {
-            let s = one_more(records, i, a.moment, finish_in(finishes, k));
-            let more = summary::with_record(records, i, s);
-            records = more;
+            let s = with_job(records[i], a.moment, finish_in(finishes, k));
+            records[i] = s;
         }
         k += 1;
     }
@@ -60,15 +60,6 @@ fn finish_in(finishes: &[u32], k: usize) -> u32
         return finishes[k];
     }
     sizes::OPEN_JOB
-}
-
-// The record of server i with one job more, for which the list has `finish`.
-fn one_more(records: [Summary; sizes::MOST_SERVERS], i: usize, came: Moment, finish: u32) -> Summary
-    requires { ⌜ i < mostServers ⌝ }
-    requires { ⌜ Roomy (getD records i blank) finish ⌝ }
-    ensures { λ r. ⌜ r ≡ withJob (getD records i blank) came (finishOf finish) ⌝ }
-{
-    with_job(records[i], came, finish)
 }
 
 // A record with one job more, for which the list has `finish`: an open one has arrived, and any other has finished too.
@@ -139,11 +130,22 @@ pub fn fill(
     let mut all = records;
     let mut i = 0;
     while i < servers {
-        all[i].postponed = count_at(postponed, i);
-        all[i].interrupted = count_at(interrupted, i);
+        let s = with_counts(all[i], count_at(postponed, i), count_at(interrupted, i));
+        let more = summary::with_record(all, i, s);
+        all = more;
         i += 1;
     }
     all
+}
+
+// A record with its two counts.
+fn with_counts(s: Summary, postponed: u64, interrupted: u64) -> Summary
+    ensures { λ r. ⌜ r ≡ withCounts s postponed interrupted ⌝ }
+{
+    let mut counted = s;
+    counted.postponed = postponed;
+    counted.interrupted = interrupted;
+    counted
 }
 
 fn least(a: usize, b: usize) -> usize

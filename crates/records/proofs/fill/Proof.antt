@@ -24,23 +24,23 @@ loop-holds : tie.Need-loop-holds Inv-loop μ-loop
 loop-holds c =
     let whole : length (c .before .args .records) ≡ 64 = search needs in (zero-le, sym (filled-none _ _ _ whole))
 
+mul-with-counts : tie.Need-mul-with-counts Inv-loop μ-loop
+mul-with-counts c = omega arith
+
+array-copy-out-with-counts : tie.Need-array-copy-out-with-counts Inv-loop μ-loop
+array-copy-out-with-counts c = omega arith
+
 count-at-requires : tie.Need-count-at-requires Inv-loop μ-loop
 count-at-requires c κs = omega arith
-
-mul-all : tie.Need-mul-all Inv-loop μ-loop
-mul-all c = omega arith
-
-way-write-given-all : tie.Need-way-write-given-all Inv-loop μ-loop
-way-write-given-all c = omega arith
 
 count-at-requires-2 : tie.Need-count-at-requires-2 Inv-loop μ-loop
 count-at-requires-2 c κs = omega arith
 
-mul-all-2 : tie.Need-mul-all-2 Inv-loop μ-loop
-mul-all-2 c = omega arith
+with-counts-requires : tie.Need-with-counts-requires Inv-loop μ-loop
+with-counts-requires c κs = search needs
 
-way-write-given-all-2 : tie.Need-way-write-given-all-2 Inv-loop μ-loop
-way-write-given-all-2 c = omega arith
+with-record-requires : tie.Need-with-record-requires Inv-loop μ-loop
+with-record-requires c κs = search needs
 
 add-i : tie.Need-add-i Inv-loop μ-loop
 add-i c = omega arith
@@ -50,9 +50,12 @@ loop-less c = omega arith
 
 loop-again : tie.Need-loop-again Inv-loop μ-loop
 loop-again c =
-    let turn = c .before .before .before .before .before in (
+    let second = c .before .before in
+    let first = second .before in
+    let turn = first .before .before .before in (
       omega arith,
-      rw (add-one, c .before .before .before .count-at .ensures, c .before .count-at2 .ensures)
+      c .with-record .ensures
+          ∙ rw (add-one, c .before .with-counts .ensures, first .before .with-counts-arg .given, first .count-at .ensures, second .count-at2 .ensures)
           (filled-more _ _ _ (turn .loop .i) (omega arith) (turn .loop .inv .1)),
     )
 
@@ -72,12 +75,12 @@ fill-spec =
     μ-loop
     least-requires
     loop-holds
+    mul-with-counts
+    array-copy-out-with-counts
     count-at-requires
-    mul-all
-    way-write-given-all
     count-at-requires-2
-    mul-all-2
-    way-write-given-all-2
+    with-counts-requires
+    with-record-requires
     add-i
     loop-less
     loop-again

@@ -40,22 +40,29 @@ mul-arrival-from c = omega arith
 arrival-from-requires : tie.Need-arrival-from-requires Inv-loop μ-loop
 arrival-from-requires c κs = search needs
 
+mul-with-job : tie.Need-mul-with-job Inv-loop μ-loop
+mul-with-job c = search needs
+
+array-copy-out-with-job : tie.Need-array-copy-out-with-job Inv-loop μ-loop
+array-copy-out-with-job c = search needs
+
 finish-in-requires : tie.Need-finish-in-requires Inv-loop μ-loop
 finish-in-requires c κs = search needs
 
-one-more-requires : tie.Need-one-more-requires Inv-loop μ-loop
-one-more-requires c κs =
-    let turn = c .before .before .before .before in
-    let start = turn .before .before .before .before in (
-      c .before .if1 .taken,
-      rw (turn .loop .inv .1, c .finish-in .ensures)
-          (records-roomy _ _ (λ j. omega (arith, turn .before .before .shared-slice-known2 .given j)) (turn .loop .k) _
-          (omega (arith, start .pre .1, turn .loop .inv .0))
-          (c .before .if1 .taken)),
-    )
+with-job-requires : tie.Need-with-job-requires Inv-loop μ-loop
+with-job-requires c κs =
+    let turn = c .before .before .before .before .before in
+    let start = turn .before .before .before .before in
+    rw (c .before .with-job-arg .given, turn .loop .inv .1, c .finish-in .ensures)
+    (records-roomy _ _ (λ j. omega (arith, turn .before .before .shared-slice-known2 .given j)) (turn .loop .k) _
+    (omega (arith, start .pre .1, turn .loop .inv .0))
+    (c .before .before .if1 .taken))
 
-with-record-requires : tie.Need-with-record-requires Inv-loop μ-loop
-with-record-requires c κs = search needs
+mul-records : tie.Need-mul-records Inv-loop μ-loop
+mul-records c = search needs
+
+array-set-from-records : tie.Need-array-set-from-records Inv-loop μ-loop
+array-set-from-records c = search needs
 
 add-k : tie.Need-add-k Inv-loop μ-loop
 add-k c = omega arith
@@ -72,8 +79,8 @@ loop-again c =
       rw add-one
           (⊎-elim
           (λ w. w .4
-          ∙ w .3 .ensures
-          ∙ rw (w .2 .ensures, w .1 .ensures) (records-more _ _ (turn .loop .k) (turn .loop .inv .1) a-is (w .0 .taken)))
+          ∙ rw (w .3 .ensures, w .1 .given, w .2 .ensures)
+          (records-more _ _ (turn .loop .k) (turn .loop .inv .1) a-is (w .0 .taken)))
           (λ w. w .1 ∙ records-stay _ _ (turn .loop .k) (turn .loop .inv .1) a-is (w .0 .left))
           (c .if1 .came)),
     )
@@ -95,9 +102,12 @@ of-arrivals-spec =
     loop-holds
     mul-arrival-from
     arrival-from-requires
+    mul-with-job
+    array-copy-out-with-job
     finish-in-requires
-    one-more-requires
-    with-record-requires
+    with-job-requires
+    mul-records
+    array-set-from-records
     add-k
     loop-less
     loop-again
