@@ -32,14 +32,20 @@ pub fn add(text: &mut [u8], next: usize, bytes: &[u8]) -> usize
     at
 }
 
-// Adds a number in decimal, as many digits as fit, and answers the next place.
+// Adds a number in decimal, as many digits as fit, and answers the next place. A call adds the last two digits behind a hundredth of the
+// number: that is quicker than a call for each digit.
 pub fn add_number(text: &mut [u8], next: usize, n: u64) -> usize
     ensures { λ r. ⌜ page (now (text .exit)) r ≡ added (decimal n) (page (now (text .entry)) next) ⌝ }
 {
-    let mut at = next;
-    if 10 <= n {
-        at = add_number(text, at, n / 10);
+    if n < 10 {
+        return add_byte(text, next, last_digit(n));
     }
+    let tenth = n / 10;
+    let mut at = next;
+    if 10 <= tenth {
+        at = add_number(text, at, tenth / 10);
+    }
+    at = add_byte(text, at, last_digit(tenth));
     add_byte(text, at, last_digit(n))
 }
 

@@ -1,4 +1,5 @@
--- `text::add_number` meets its promise: before its last digit a number has a tenth of it, which is smaller, or nothing where it is below 10.
+-- `text::add_number` meets its promise: a number below 10 is one digit; before the last digit of any other stands a tenth of it, and before
+-- the tenth's last digit a hundredth of the number, which is smaller than it, or nothing.
 use Prim.Native.Nat.{ℕ, _%_, _<_}
 use borrow.Fn.Kinds.{In}
 use borrow.Fn.PlainCycle.{Measures, is, falls, and}
@@ -23,6 +24,10 @@ use Rattle.text.proofs.+add_number.Tie.{close}
 decimal-one : (n : ℕ) → n < 10 → decimal n ≡ digit (n % 10) ∷ []
 decimal-one n h = decimal-last n h ∙ ap (λ (d : ℕ). digit d ∷ []) (omega arith)
 
+-- a byte that is added is added as what it equals
+byte-as : (p : Page) {q : Page} {b d : ℕ} → b ≡ d → q ≡ added (b ∷ []) p → q ≡ added (d ∷ []) p
+byte-as p e = added-as p (ap (λ (b : ℕ). b ∷ []) e)
+
 -- the number itself falls
 abbrev μ : Measures 1 add-number-kinds.ps ℕ
 μ κs a = a .1 .1 .0
@@ -37,10 +42,7 @@ below t = and 1 add-number-kinds.ps (falls 1 add-number-kinds.ps _<_ μ t) add-n
 module _ (t : ℕ) where
   -- what is known of the functions that it calls
   abbrev calls : lts.Claims
-  calls = (below t, add-number.Post, last-digit.Asked, last-digit.Learnt, add-byte.Asked, add-byte.Learnt)
-
-  falls-to-a-tenth : lts.Need-add-number-requires calls (given t) add-number.Post
-  falls-to-a-tenth c κs = (omega (arith, c .before .if1 .taken, c .before .before .before .pre .0), tt)
+  calls = (last-digit.Asked, last-digit.Learnt, add-byte.Asked, add-byte.Learnt, below t, add-number.Post)
 
   asks-nothing : lts.Need-last-digit-requires calls (given t) add-number.Post
   asks-nothing c κs = tt
@@ -50,19 +52,49 @@ module _ (t : ℕ) where
 
   returns : lts.Need-returns calls (given t) add-number.Post
   returns c =
-      let digit = c .before .before .before in
-      let number = digit .before .before in
-      let last = added-as _ (ap (λ (b : ℕ). b ∷ []) (digit .last-digit .ensures)) (c .before .before .add-byte .ensures) in
-      ⊎-elim
-      (λ w. added-as _ (sym (decimal-more _ (w .0 .taken)))
-      (added-then _ _ _ (ap₂ page (w .5) (w .6) ∙ w .2 .ensures) last))
-      (λ w. added-as _ (sym (decimal-one _ (w .0 .left))) (last ∙ ap (added _) (ap₂ page (w .1) (w .2))))
-      (number .if1 .came)
+      let one = c .before .before .before in
+      added-as _ (sym (decimal-one _ (one .before .before .if1 .taken)))
+      (byte-as _ (one .last-digit .ensures) (c .before .before .add-byte .ensures))
 
   same-length : lts.Need-same-length calls (given t) add-number.Post
   same-length c = ap (λ (p : Page). length (p .text)) (returns c) ∙ added-length _ _
 
+  falls-to-a-hundredth : lts.Need-add-number-requires calls (given t) add-number.Post
+  falls-to-a-hundredth c κs =
+      (omega (arith, c .before .if2 .taken, c .before .before .before .before .pre .0), tt)
+
+  asks-nothing-3 : lts.Need-last-digit-requires-2 calls (given t) add-number.Post
+  asks-nothing-3 c κs = tt
+
+  asks-nothing-4 : lts.Need-add-byte-requires-2 calls (given t) add-number.Post
+  asks-nothing-4 c κs = tt
+
+  asks-nothing-5 : lts.Need-last-digit-requires-3 calls (given t) add-number.Post
+  asks-nothing-5 c κs = tt
+
+  asks-nothing-6 : lts.Need-add-byte-requires-3 calls (given t) add-number.Post
+  asks-nothing-6 c κs = tt
+
+  returns-2 : lts.Need-returns-2 calls (given t) add-number.Post
+  returns-2 c =
+      let last = c .before .before .before in
+      let first = last .before .before .before .before .before in
+      let number = first .before .before in
+      let one = byte-as _ (first .last-digit2 .ensures) (last .before .before .before .before .add-byte2 .ensures) in
+      let tenth =
+      ⊎-elim
+      (λ w. added-as _ (sym (decimal-more _ (w .0 .taken)))
+      (added-then _ _ _ (ap₂ page (w .5) (w .6) ∙ w .2 .ensures) one))
+      (λ w. added-as _ (sym (decimal-one _ (w .0 .left))) (one ∙ ap (added _) (ap₂ page (w .1) (w .2))))
+      (number .if2 .came) in
+      added-as _ (sym (decimal-more _ (number .before .if1 .left)))
+      (added-then _ _ _ tenth (byte-as _ (last .last-digit3 .ensures) (c .before .before .add-byte3 .ensures)))
+
+  same-length-2 : lts.Need-same-length-2 calls (given t) add-number.Post
+  same-length-2 c = ap (λ (p : Page). length (p .text)) (returns-2 c) ∙ added-length _ _
+
 pub +add-number-spec : {M : Type 1} → statement M
 +add-number-spec =
     close μ
-    (λ t. lts.spec (calls t) (given t) add-number.Post (falls-to-a-tenth t) (asks-nothing t) (asks-nothing-2 t) (same-length t) (returns t))
+    (λ t. lts.spec (calls t) (given t) add-number.Post (asks-nothing t) (asks-nothing-2 t) (same-length t) (returns t)
+    (falls-to-a-hundredth t) (asks-nothing-3 t) (asks-nothing-4 t) (asks-nothing-5 t) (asks-nothing-6 t) (same-length-2 t) (returns-2 t))
