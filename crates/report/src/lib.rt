@@ -7,7 +7,7 @@ ghost use mathlib.Core.Path.{_≡_};
 ghost use Rattle.booking.specs.Admission.{shares};
 ghost use Rattle.books.specs.Accepted.{Accepted};
 ghost use Rattle.report.specs.DayReport.{acceptedReport, dayReport, segmentLine, serverLine};
-ghost use Rattle.report.specs.Told.{Left, Told, jobIn, traceOf};
+ghost use Rattle.report.specs.Told.{Told, jobIn, traceOf};
 ghost use Rattle.sizes.specs.Sizes.{mostArrivals, mostServers, traceNumbers};
 ghost use Rattle.summary.specs.Summary.{blank};
 ghost use Rattle.text.specs.Line.{each};
@@ -17,7 +17,6 @@ ghost use Rattle.workfile.specs.Work.{work};
 use clock::Length;
 use clock::Moment;
 use refusal::Verdict;
-use run::Ran;
 use summary::Summary;
 use trace::Segment;
 
@@ -31,7 +30,12 @@ pub fn day_report(file: &[u8], text: &mut [u8]) -> usize
     let mut list = trace_list();
     let mut finishes = finish_list();
     let ran = run::run(file, &mut list, &mut finishes);
-    report_of(file, &list, &finishes, ran, text)
+    let verdict = ran.verdict;
+    let summaries = ran.summaries;
+    match verdict {
+        Verdict::Accepted => accepted(file, &list, &finishes, ran.segments, summaries, text),
+        Verdict::Refused(why) => lines::refused(text, 0, why),
+    }
 }
 
 // The contracts give the lengths, which lending the arrays needs.
@@ -45,19 +49,6 @@ fn finish_list() -> [u32; sizes::MOST_ARRIVALS]
     ensures { λ r. ⌜ mostArrivals ≡ length r ⌝ }
 {
     [0; sizes::MOST_ARRIVALS]
-}
-
-// The report, from what the run left.
-fn report_of(file: &[u8], list: &[u64], finishes: &[u32], ran: Ran, text: &mut [u8]) -> usize
-    requires { ⌜ Left (now file) (now list) (now finishes) ran ⌝ }
-    ensures { λ r. ⌜ page (now (text .exit)) r ≡ added (dayReport (now (file .entry))) (page (now (text .entry)) 0) ⌝ }
-{
-    let verdict = ran.verdict;
-    let summaries = ran.summaries;
-    match verdict {
-        Verdict::Accepted => accepted(file, list, finishes, ran.segments, summaries, text),
-        Verdict::Refused(why) => lines::refused(text, 0, why),
-    }
 }
 
 // The report of an accepted file, from what the run left.

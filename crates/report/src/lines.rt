@@ -1,10 +1,9 @@
 // The lines of the report, each added behind what the text has. Every function answers the next place of the text.
 ghost use mathlib.Core.List.{[], _∷_, _++_};
 ghost use mathlib.Core.Path.{_≡_};
-ghost use Rattle.clock.specs.Clock.{moment, until};
 ghost use Rattle.finish.specs.Finish.{finishOf};
 ghost use Rattle.refusal.specs.Refusals.{numberOf, placeOf};
-ghost use Rattle.report.specs.DayReport.{refusedLine, admittedLine, segmentLine, segmentsLine, finishFields, jobWith, totalField, longestField, serverLine};
+ghost use Rattle.report.specs.DayReport.{refusedLine, admittedLine, segmentLine, segmentsLine, jobWith, totalField, longestField, serverLine};
 ghost use Rattle.text.specs.Line.{bytes, bytesOf, decimal, goesOn, number};
 ghost use Rattle.text.specs.Page.{added, page};
 use arrival::Arrival;
@@ -56,27 +55,14 @@ pub(crate) fn job(text: &mut [u8], next: usize, k: usize, a: Arrival, finish: u3
 {
     let mut at = text::add_numbered(text, next, b"job ", k as u64);
     at = pair(text, at, a.server as u64, a.moment.tick);
-    finish_fields(text, at, a.moment, finish)
-}
-
-// The rest of a job's line: its finish and its response.
-fn finish_fields(text: &mut [u8], next: usize, came: Moment, finish: u32) -> usize
-    ensures { λ r. ⌜ page (now (text .exit)) r ≡ added (goesOn (finishFields came (finishOf finish))) (page (now (text .entry)) next) ⌝ }
-{
     if finish == sizes::OPEN_JOB {
-        return text::add(text, next, b" open -\n");
+        return text::add(text, at, b" open -\n");
     }
-    let finish = finish as u64;
-    last_pair(text, next, finish, response(came, finish))
-}
-
-// The ticks from an arrival to its finish.
-fn response(came: Moment, finish: u64) -> u64
-    ensures { λ r. ⌜ r ≡ until came (moment finish) .ticks ⌝ }
-{
-    let finished = Moment { tick: finish };
-    let response = clock::until(came, finished);
-    response.ticks
+    let finished = Moment {
+        tick: finish as u64,
+    };
+    let response = clock::until(a.moment, finished);
+    last_pair(text, at, finished.tick, response.ticks)
 }
 
 pub(crate) fn server(text: &mut [u8], next: usize, i: usize, s: Summary) -> usize
@@ -124,7 +110,8 @@ fn pair(text: &mut [u8], next: usize, n: u64, m: u64) -> usize
 fn last_pair(text: &mut [u8], next: usize, n: u64, m: u64) -> usize
     ensures { λ r. ⌜ page (now (text .exit)) r ≡ added (goesOn (number n ∷ number m ∷ [])) (page (now (text .entry)) next) ⌝ }
 {
-    last_two(text, next, b" ", n, b" ", m)
+    let at = pair(text, next, n, m);
+    text::add_byte(text, at, b'\n')
 }
 
 // Two numbers, each behind its words.

@@ -1,8 +1,7 @@
 -- `report::accepted` meets its promise: the parts of the report are added one behind the other.
-use borrow.Author.Needs.{needs}
 use Prim.Native.Nat.{ℕ}
-use lib.ListN.{getD}
-use mathlib.Core.Path.{ap, ap₂}
+use lib.ListN.{getD, length}
+use mathlib.Core.Path.{ap, ap₂, _∙_}
 use native.Mathlib.Omega.{arith}
 use Rattle.books.specs.Accepted.{frame-read, servers-read}
 use Rattle.clock.specs.declared.Length.{Length}
@@ -10,7 +9,8 @@ use Rattle.report.specs.DayReport.{admittedLine, serverLine}
 use Rattle.report.specs.ReportLaws.{ends-long, report-told}
 use Rattle.summary.specs.Summary.{blank}
 use Rattle.text.specs.Line.{each}
-use Rattle.text.specs.PageLaws.{added-as}
+use Rattle.text.specs.Page.{Page}
+use Rattle.text.specs.PageLaws.{added-as, added-length}
 use Rattle.report.proofs.accepted.Statement.{statement}
 use Rattle.report.proofs.accepted.Tie as tie
 
@@ -38,9 +38,6 @@ job-lines-requires c κs = (c .before .before .before .before .before .before .b
 server-lines-requires : tie.Need-server-lines-requires
 server-lines-requires c κs = omega (arith, servers-read _ (c .before .before .before .before .before .before .before .before .before .before .before .before .before .before .before .before .before .before .before .header-of .ensures), c .before .before .before .before .before .before .before .before .before .before .before .before .before .before .before .before .before .before .before .before .before .before .before .before .pre .accepted .fit .servers)
 
-same-length : tie.Need-same-length
-same-length c = search needs
-
 returns : tie.Need-returns
 returns c =
     let servers = c .before .before in
@@ -59,6 +56,9 @@ returns c =
     (count .segments .ensures)
     (jobs .job-lines .ensures)
     (added-as _ (ap (λ (n : ℕ). each n (λ i. serverLine i (getD (start .args .records) i blank))) (servers-read _ read)) (servers .server-lines .ensures))
+
+same-length : tie.Need-same-length
+same-length c = ap (λ (p : Page). length (p .text)) (returns c) ∙ added-length _ _
 
 pub accepted-spec : {M : Type 1} → statement M
 accepted-spec =

@@ -1,10 +1,11 @@
 -- `report::lines::last_two` meets its promise: the two numbers with their words, and a line feed behind them.
 use Prim.Native.Nat.{ℕ}
-use borrow.Author.Needs.{needs}
+use lib.ListN.{length}
 use mathlib.Core.List.{List, [], _++_, append-assoc}
-use mathlib.Core.Path.{_≡_}
+use mathlib.Core.Path.{_≡_, _∙_, ap}
 use Rattle.text.specs.Line.{decimal, goesOn}
-use Rattle.text.specs.PageLaws.{added-as, added-two-then}
+use Rattle.text.specs.Page.{Page}
+use Rattle.text.specs.PageLaws.{added-as, added-two-then, added-length}
 use Rattle.report.proofs.lines.last_two.Statement.{statement}
 use Rattle.report.proofs.lines.last_two.Tie as tie
 
@@ -17,15 +18,15 @@ two-requires c κs = tt
 add-byte-requires : tie.Need-add-byte-requires
 add-byte-requires c κs = tt
 
-same-length : tie.Need-same-length
-same-length c = search needs
-
 returns : tie.Need-returns
 returns c =
     let end = c .before .before in
     let numbers = end .before .before .before .before in
     let args = numbers .before .before .before .before .before .args in
     added-as _ (in-turn (args .words .now) (decimal (args .n)) (args .more .now) (decimal (args .m)) (goesOn [])) (added-two-then _ _ _ _ (numbers .two .ensures) (end .add-byte .ensures))
+
+same-length : tie.Need-same-length
+same-length c = ap (λ (p : Page). length (p .text)) (returns c) ∙ added-length _ _
 
 pub last-two-spec : {M : Type 1} → statement M
 last-two-spec = tie.close (tie.spec two-requires add-byte-requires same-length returns)

@@ -1,8 +1,9 @@
 -- `report::lines::refused` meets its promise: the number and the place are as the table gives them.
-use borrow.Author.Needs.{needs}
-use mathlib.Core.Path.{refl, ap₂}
+use lib.ListN.{length}
+use mathlib.Core.Path.{refl, ap₂, _∙_, ap}
 use Rattle.report.specs.DayReport.{refusedLine}
-use Rattle.text.specs.PageLaws.{added-as}
+use Rattle.text.specs.Page.{Page}
+use Rattle.text.specs.PageLaws.{added-as, added-length}
 use Rattle.report.proofs.lines.refused.Statement.{statement}
 use Rattle.report.proofs.lines.refused.Tie as tie
 
@@ -21,14 +22,14 @@ slice-aggregate-last-two-2 c = refl
 last-two-requires : tie.Need-last-two-requires
 last-two-requires c κs = tt
 
-same-length : tie.Need-same-length
-same-length c = search needs
-
 returns : tie.Need-returns
 returns c =
     let line = c .before .before in
     let place = line .before .before .before .before in
     added-as _ (ap₂ refusedLine (place .before .number .ensures) (place .place .ensures)) (line .last-two .ensures)
+
+same-length : tie.Need-same-length
+same-length c = ap (λ (p : Page). length (p .text)) (returns c) ∙ added-length _ _
 
 pub refused-spec : {M : Type 1} → statement M
 refused-spec =

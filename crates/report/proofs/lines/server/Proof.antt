@@ -1,8 +1,9 @@
 -- `report::lines::server` meets its promise: its parts one behind the other are the line.
-use borrow.Author.Needs.{needs}
-use mathlib.Core.Path.{refl}
+use lib.ListN.{length}
+use mathlib.Core.Path.{refl, _∙_, ap}
 use Rattle.report.specs.DayReport.{serverLine}
-use Rattle.text.specs.PageLaws.{added-then, added-two-then}
+use Rattle.text.specs.Page.{Page}
+use Rattle.text.specs.PageLaws.{added-then, added-two-then, added-length}
 use Rattle.report.proofs.lines.server.Statement.{statement}
 use Rattle.report.proofs.lines.server.Tie as tie
 
@@ -33,9 +34,6 @@ slice-aggregate-last-two-2 c = refl
 last-two-requires : tie.Need-last-two-requires
 last-two-requires c κs = tt
 
-same-length : tie.Need-same-length
-same-length c = search needs
-
 returns : tie.Need-returns
 unfolding serverLine
 returns c =
@@ -47,6 +45,9 @@ returns c =
     (added-two-then _ _ _ _ (jobs .two .ensures)
     (added-two-then _ _ _ _ (responses .responses .ensures)
     (last .last-two .ensures)))
+
+same-length : tie.Need-same-length
+same-length c = ap (λ (p : Page). length (p .text)) (returns c) ∙ added-length _ _
 
 pub server-spec : {M : Type 1} → statement M
 server-spec =
