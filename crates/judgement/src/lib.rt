@@ -37,13 +37,11 @@ fn judge_arrivals(file: &[u8], h: Header, places: usize) -> Verdict
     requires { ⌜ Sized h ⌝ }
     ensures { λ r. ⌜ onPaper r ≡ listJudged (workUnder h (now (file .entry))) places ⌝ }
 {
-    let horizon = h.horizon.tick;
     let arrivals = h.arrivals.count;
-    let offset = h.arrivals.offset;
     let mut before = 0;
     let mut k = 0;
     while k < arrivals {
-        let a = reader::arrival_from(file, offset, sizes::ARRIVAL_BYTES * k);
+        let a = reader::arrival_from(file, h.arrivals.offset, sizes::ARRIVAL_BYTES * k);
         let now = a.moment.tick;
         let faulty = arrival::is_faulty(h.servers.count, a.server, a.cost);
         if faulty {
@@ -52,7 +50,7 @@ fn judge_arrivals(file: &[u8], h: Header, places: usize) -> Verdict
         if now < before {
             return Verdict::Refused(Refusal::BackwardArrival(k));
         }
-        if horizon <= now {
+        if h.horizon.tick <= now {
             return Verdict::Refused(Refusal::LateArrival(k));
         }
         before = now;
@@ -69,15 +67,13 @@ fn admit(file: &[u8], h: Header) -> Verdict
     requires { ⌜ Sized h ⌝ }
     ensures { λ r. ⌜ onPaper r ≡ admission (h .frame) (workUnder h (now (file .entry)) .table) ⌝ }
 {
-    let frame = h.frame.ticks;
     let servers = h.servers.count;
-    let offset = h.servers.offset;
     let mut sum = 0;
     let mut k = 0;
     while k < servers {
         let found = booking::share_of(
             h.frame,
-            reader::booking_from(file, offset, sizes::SERVER_BYTES * k),
+            reader::booking_from(file, h.servers.offset, sizes::SERVER_BYTES * k),
         );
         if found.faulty {
             return Verdict::Refused(Refusal::FaultyServer(k));
@@ -85,7 +81,7 @@ fn admit(file: &[u8], h: Header) -> Verdict
         sum += found.share.ticks;
         k += 1;
     }
-    if frame < sum {
+    if h.frame.ticks < sum {
         return Verdict::Refused(Refusal::Shares);
     }
     Verdict::Accepted
@@ -105,23 +101,19 @@ fn is_length_out_of_range(bytes: usize) -> bool
 fn is_size_out_of_range(h: Header) -> bool
     ensures { λ r. ⌜ r ≡ sizesOutOfRange h ⌝ }
 {
-    let frame = h.frame.ticks;
-    let horizon = h.horizon.tick;
-    let servers = h.servers.count;
-    let arrivals = h.arrivals.count;
-    if frame < 1 {
+    if h.frame.ticks < 1 {
         return true;
     }
-    if sizes::MOST_FRAME < frame {
+    if sizes::MOST_FRAME < h.frame.ticks {
         return true;
     }
-    if sizes::CLOCK_END < horizon {
+    if sizes::CLOCK_END < h.horizon.tick {
         return true;
     }
-    if sizes::MOST_SERVERS < servers {
+    if sizes::MOST_SERVERS < h.servers.count {
         return true;
     }
-    sizes::MOST_ARRIVALS < arrivals
+    sizes::MOST_ARRIVALS < h.arrivals.count
 }
 
 // The test for 3. Offsets and lengths are added in 64 bits, which hold the sums of what passes 2.

@@ -12,11 +12,11 @@ use Rattle.judgement.proofs.admit.Statement.{statement}
 use Rattle.judgement.proofs.admit.Tie as tie
 
 abbrev Inv-loop : tie.InvT-loop
-Inv-loop file h frame servers offset sum₀ k₀ sum k =
+Inv-loop file h servers sum₀ k₀ sum k =
     (k ≤ h .servers .count) × Sofar (h .frame) (workUnder h file .table) k sum
 
 abbrev μ-loop : tie.MeasureT-loop
-μ-loop file h frame servers offset sum₀ k₀ sum k = h .servers .count - k
+μ-loop file h servers sum₀ k₀ sum k = h .servers .count - k
 
 loop-holds : tie.Need-loop-holds Inv-loop μ-loop
 loop-holds c = (omega arith, sofar-none _ _)
@@ -87,10 +87,10 @@ all-added c =
     (c .before .loop .inv .1)
 
 returns-2 : tie.Need-returns-2 Inv-loop μ-loop
-returns-2 c = sym (sofar-over _ _ (all-added (c .before)) (c .if2 .taken))
+returns-2 c = sym (sofar-over _ _ (all-added (c .before .before)) (c .if2 .taken))
 
 returns-3 : tie.Need-returns-3 Inv-loop μ-loop
-returns-3 c = sym (sofar-whole _ _ (all-added (c .before)) (c .if2 .left))
+returns-3 c = sym (sofar-whole _ _ (all-added (c .before .before)) (c .if2 .left))
 
 pub admit-spec : {M : Type 1} → statement M
 admit-spec =

@@ -13,11 +13,11 @@ use Rattle.judgement.proofs.judge_arrivals.Statement.{statement}
 use Rattle.judgement.proofs.judge_arrivals.Tie as tie
 
 abbrev Inv-loop : tie.InvT-loop
-Inv-loop file h places horizon arrivals offset before₀ k₀ before k =
+Inv-loop file h places arrivals before₀ k₀ before k =
     (k ≤ h .arrivals .count) × Passed (workUnder h file) k before
 
 abbrev μ-loop : tie.MeasureT-loop
-μ-loop file h places horizon arrivals offset before₀ k₀ before k = h .arrivals .count - k
+μ-loop file h places arrivals before₀ k₀ before k = h .arrivals .count - k
 
 loop-holds : tie.Need-loop-holds Inv-loop μ-loop
 loop-holds c = (omega arith, passed-none _)
@@ -56,10 +56,10 @@ returns-2 c =
 returns-3 : tie.Need-returns-3 Inv-loop μ-loop
 returns-3 c =
     sym
-    (passed-late _ (c .before .before .before .before .before .before .loop .inv .1) (c .before .before .before .before .arrival-from .ensures) _
+    (passed-late _ (c .before .before .before .before .before .before .before .loop .inv .1) (c .before .before .before .before .before .arrival-from .ensures) _
     (omega arith)
-    (no-fault (c .before .before))
-    (c .before .if2 .left)
+    (no-fault (c .before .before .before))
+    (c .before .before .if2 .left)
     (c .if3 .taken))
 
 add-k : tie.Need-add-k Inv-loop μ-loop
@@ -72,9 +72,9 @@ loop-again : tie.Need-loop-again Inv-loop μ-loop
 loop-again c = (
   omega arith,
   rw add-one
-      (passed-more _ (c .before .before .before .before .before .before .loop .inv .1) (c .before .before .before .before .arrival-from .ensures)
-      (no-fault (c .before .before))
-      (c .before .if2 .left)
+      (passed-more _ (c .before .before .before .before .before .before .before .loop .inv .1) (c .before .before .before .before .before .arrival-from .ensures)
+      (no-fault (c .before .before .before))
+      (c .before .before .if2 .left)
       (c .if3 .left)),
 )
 
