@@ -19,19 +19,20 @@ use clock::Moment;
 use server::Server;
 
 // For how many whole budgets server i goes on: none where its budget is not full, else as many as there is time and work to spare,
-// and as no other server wins before.
-pub(crate) fn further(keys: &[u64; 128], i: usize, s: Server, spare: u64) -> u64
+// and as no other server wins before. The other half of the servers stands so many levels up in the tree.
+pub(crate) fn further(keys: &[u64; 128], levels: usize, i: usize, s: Server, spare: u64) -> u64
     requires { ⌜ i < 64 ⌝ }
     requires { ⌜ Winners (now keys) ⌝ }
     requires { ⌜ Able s ⌝ }
+    requires { ⌜ levels < 6 ⌝ }
     ensures { λ r. ⌜ Further (now (keys .entry)) i s spare r ⌝ }
 {
     let budget = s.budget.ticks;
     let period = s.period.ticks;
     let own = s.deadline.tick * 64 + i as u64;
-    // The least key of the half of the servers that i is not of. Asked first, as it nearly always ends as it did the time before: with more
-    // than 32 servers at work that half mostly has an earlier key, with at most 32 never.
-    if keys[3 - i / 32] <= own {
+    // The least key of the half of the servers that i is not of. Asked first, as it nearly always ends as it did the time before: where
+    // many are at work, that half mostly has an earlier key.
+    if keys[tree::other_half(i, levels)] <= own {
         return 0;
     }
     if s.remaining.ticks < budget {

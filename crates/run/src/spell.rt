@@ -41,12 +41,14 @@ pub struct Gone {
     pub gone: u64,
 }
 
-// Server i goes for a spell from t on, with `rest` of its job left, and `room` ticks to the next arrival or the horizon.
+// Server i goes for a spell from t on, with `rest` of its job left, and `room` ticks to the next arrival or the horizon. The two halves of the
+// servers stand so many levels up in the tree.
 pub(crate) fn go(
     list: &mut [u64],
     keys: &mut [u64; 128],
     postponed: &mut [u64; sizes::MOST_SERVERS],
     interrupted: &mut [u64; sizes::MOST_SERVERS],
+    levels: usize,
     c: Current,
     t: u64,
     i: usize,
@@ -68,9 +70,10 @@ pub(crate) fn go(
     requires { ⌜ NoneAbove t (now interrupted) ⌝ }
     requires { ⌜ getD (now postponed) i 0 ≤ t ⌝ }
     requires { ⌜ length (now interrupted) ≡ mostServers ⌝ }
+    requires { ⌜ levels < 6 ⌝ }
     ensures { λ r. ⌜ Went t i s rest room c (now (keys .entry)) (now (list .entry)) (now (postponed .entry)) (now (interrupted .entry)) (now (keys .exit)) (now (list .exit)) (now (postponed .exit)) (now (interrupted .exit)) (r .current) (r .server) (r .gone) ⌝ }
 {
-    let p = plan(keys, i, s, rest, room);
+    let p = plan(keys, levels, i, s, rest, room);
     let current = pass_through(list, interrupted, c, t, i, s.deadline, p);
     tree::set_key(keys, i, p.key);
     postponed[i] += p.postponed;
@@ -83,7 +86,7 @@ pub(crate) fn go(
 }
 
 // What the spell will be: its ticks and budgets, and the server, its key and its counts after them.
-fn plan(keys: &[u64; 128], i: usize, s: Server, rest: u64, room: u64) -> Spell
+fn plan(keys: &[u64; 128], levels: usize, i: usize, s: Server, rest: u64, room: u64) -> Spell
     requires { ⌜ i < 64 ⌝ }
     requires { ⌜ Winners (now keys) ⌝ }
     requires { ⌜ Able s ⌝ }
@@ -93,6 +96,7 @@ fn plan(keys: &[u64; 128], i: usize, s: Server, rest: u64, room: u64) -> Spell
     requires { ⌜ 0 < s .remaining .ticks ⌝ }
     requires { ⌜ 0 < room ⌝ }
     requires { ⌜ room ≤ clockEnd ⌝ }
+    requires { ⌜ levels < 6 ⌝ }
     ensures { λ r. ⌜ Planned (now (keys .entry)) i s rest room (r .ticks) (r .after) (r .budgets) (r .last) (r .key) (r .gone) (r .postponed) ⌝ }
 {
     let remaining = s.remaining.ticks;
@@ -100,7 +104,7 @@ fn plan(keys: &[u64; 128], i: usize, s: Server, rest: u64, room: u64) -> Spell
     let ticks = serving::least(remaining, rest, room);
     let after = serving::serve(s, ticks);
     let spare = serving::lesser(rest - ticks, room - ticks);
-    let budgets = budgets::further(keys, i, after, spare);
+    let budgets = budgets::further(keys, levels, i, after, spare);
     let last = budgets::budgets_on(after, budgets);
     let key = serving::key_of(last, i);
     let spent = budgets::spent(ticks, remaining);

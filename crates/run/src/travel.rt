@@ -1,5 +1,5 @@
 // A run from event to event, to the horizon.
-ghost use Prim.Native.Nat.{_≤_};
+ghost use Prim.Native.Nat.{_≤_, _<_};
 ghost use lib.ListN.{length};
 ghost use mathlib.Core.Path.{_≡_};
 ghost use Rattle.books.specs.Accepted.{Accepted};
@@ -14,6 +14,7 @@ use crate::spell;
 use crate::starting;
 use crate::stretches;
 use crate::taking;
+use crate::tree;
 use clock::Moment;
 use dispatcher::Dispatcher;
 
@@ -32,6 +33,7 @@ pub(crate) fn travel(file: &[u8], list: &mut [u64], finishes: &mut [u32]) -> Tra
     let h = workfile::header_of(file);
     let arrivals = h.arrivals.count;
     let horizon = h.horizon.tick;
+    let levels = tree::levels_of(h.servers.count);
     jobs::open_all(finishes, arrivals);
     // The job that each server serves, and the job behind each.
     let mut job = [arrivals; sizes::MOST_SERVERS];
@@ -42,6 +44,7 @@ pub(crate) fn travel(file: &[u8], list: &mut [u64], finishes: &mut [u32]) -> Tra
         list,
         finishes,
         horizon,
+        levels,
         starting::start(file),
         &mut job,
         &behind,
@@ -55,6 +58,7 @@ fn to_horizon(
     list: &mut [u64],
     finishes: &mut [u32],
     horizon: u64,
+    levels: usize,
     mut d: Dispatcher,
     job: &mut [usize; sizes::MOST_SERVERS],
     behind: &[usize; sizes::MOST_ARRIVALS],
@@ -65,6 +69,7 @@ fn to_horizon(
     requires { ⌜ horizon ≡ work (now file) .horizon .tick ⌝ }
     requires { ⌜ d ≡ atMoment (work (now file)) 0 ⌝ }
     requires { ⌜ Lined (work (now file)) 0 (now job) (now behind) ⌝ }
+    requires { ⌜ levels < 6 ⌝ }
     ensures { λ r. ⌜ Came (work (now (file .entry))) (now (list .entry)) (now (finishes .entry)) (now (list .exit)) (now (finishes .exit)) (r .segments) (r .postponed) (r .interrupted) ⌝ }
 {
     // The winner tree, in which an idle server has the last number of all for its key.
@@ -101,6 +106,7 @@ fn to_horizon(
                 &mut keys,
                 &mut postponed,
                 &mut interrupted,
+                levels,
                 c,
                 t,
                 i,

@@ -40,6 +40,37 @@ pub(crate) fn rival(tree: &[u64; 128], i: usize) -> u64
     least
 }
 
+// How many levels above the keys of so many servers there are two places that have half of them each.
+pub(crate) fn levels_of(count: usize) -> usize
+    ensures { λ r. ⌜ r < 6 ⌝ }
+{
+    if 32 < count {
+        return 5;
+    }
+    if 16 < count {
+        return 4;
+    }
+    if 8 < count {
+        return 3;
+    }
+    if 4 < count {
+        return 2;
+    }
+    if 2 < count {
+        return 1;
+    }
+    0
+}
+
+// The place of the half of the servers that server i is not of, so many levels above the keys.
+pub(crate) fn other_half(i: usize, levels: usize) -> usize
+    requires { ⌜ i < 64 ⌝ }
+    requires { ⌜ levels < 6 ⌝ }
+    ensures { λ r. ⌜ r < 128 ⌝ }
+{
+    sibling((64 + i) >> levels)
+}
+
 // The other place under the place above `at`.
 fn sibling(at: usize) -> usize
     requires { ⌜ at < 128 ⌝ }

@@ -11,8 +11,8 @@ mul-own c = search needs
 add-own : tie.Need-add-own
 add-own c = search needs
 
-sub-if1 : tie.Need-sub-if1
-sub-if1 c = search needs
+other-half-requires : tie.Need-other-half-requires
+other-half-requires c κs = search needs
 
 mul-if1 : tie.Need-mul-if1
 mul-if1 c = search needs
@@ -46,15 +46,15 @@ fits-in-requires c κs = search needs
 
 returns-5 : tie.Need-returns-5
 returns-5 c =
-    let start = c .before .before .before .before .before .before .before .before .before .before .before in
-    further-some _ _ _ _ (start .pre .1 .1) (c .before .before .before .before .before .before .if2 .left) (c .before .before .before .before .rival .ensures) (c .before .before .rises .ensures) (c .before .fits-in .ensures)
+    let start = c .before .before .before .before .before .before .before .before .before .before .before .before in
+    further-some _ _ _ _ (start .pre .1 .1 .0) (c .before .before .before .before .before .before .if2 .left) (c .before .before .before .before .rival .ensures) (c .before .before .rises .ensures) (c .before .fits-in .ensures)
     (omega arith)
     (omega arith)
 
 returns-6 : tie.Need-returns-6
 returns-6 c =
-    let start = c .before .before .before .before .before .before .before .before .before .before .before in
-    further-some _ _ _ _ (start .pre .1 .1) (c .before .before .before .before .before .before .if2 .left) (c .before .before .before .before .rival .ensures) (c .before .before .rises .ensures) (c .before .fits-in .ensures)
+    let start = c .before .before .before .before .before .before .before .before .before .before .before .before in
+    further-some _ _ _ _ (start .pre .1 .1 .0) (c .before .before .before .before .before .before .if2 .left) (c .before .before .before .before .rival .ensures) (c .before .before .rises .ensures) (c .before .fits-in .ensures)
     (omega arith)
     (omega arith)
 
@@ -64,7 +64,7 @@ further-spec =
     (tie.spec
     mul-own
     add-own
-    sub-if1
+    other-half-requires
     mul-if1
     element-copy-out-if1
     returns

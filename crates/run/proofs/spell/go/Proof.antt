@@ -18,7 +18,7 @@ plan-requires c κs =
             pre .1 .1 .1 .0,
             (
               planning .0,
-              (planning .1 .0, (planning .1 .1 .0, (planning .1 .1 .1 .0, omega (arith, planning .1 .1 .1 .1 .0)))),
+              (planning .1 .0, (planning .1 .1 .0, (planning .1 .1 .1 .0, (omega (arith, planning .1 .1 .1 .1 .0), planning .1 .1 .1 .1 .1 .1 .1 .1 .1 .1)))),
             ),
           ),
         ),
@@ -31,7 +31,7 @@ pass-through-requires c κs =
     let planned = c .before .before .plan .ensures in (
       c .before .before .before .before .before .pre .0,
       (
-        timing .1 .1 .1 .1 .1 .1,
+        timing .1 .1 .1 .1 .1 .1 .0,
         (
           planned .able,
           (

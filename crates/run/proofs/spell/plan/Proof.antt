@@ -29,9 +29,12 @@ further-requires c κs =
       pre .0,
       (
         pre .1 .0,
-        after-able (pre .1 .1 .0) (pre .1 .1 .1 .0) (pre .1 .1 .1 .1 .1 .0) (pre .1 .1 .1 .1 .1 .1 .1 .1) (c .before .before .least .ensures)
-            (c .before .serve .ensures)
-            (c .lesser .ensures),
+        (
+          after-able (pre .1 .1 .0) (pre .1 .1 .1 .0) (pre .1 .1 .1 .1 .1 .0) (pre .1 .1 .1 .1 .1 .1 .1 .1 .0) (c .before .before .least .ensures)
+              (c .before .serve .ensures)
+              (c .lesser .ensures),
+          pre .1 .1 .1 .1 .1 .1 .1 .1 .1,
+        ),
       ),
     )
 
@@ -41,11 +44,11 @@ budgets-on-requires c κs =
     let ticks = c .before .before .before .least .ensures in
     let served = c .before .before .serve .ensures in
     let spare = c .before .lesser .ensures in (
-      after-able (pre .1 .1 .0) (pre .1 .1 .1 .0) (pre .1 .1 .1 .1 .1 .0) (pre .1 .1 .1 .1 .1 .1 .1 .1) ticks served spare,
+      after-able (pre .1 .1 .0) (pre .1 .1 .1 .0) (pre .1 .1 .1 .1 .1 .0) (pre .1 .1 .1 .1 .1 .1 .1 .1 .0) ticks served spare,
       (
-        further-few (pre .1 .1 .0) (pre .1 .1 .1 .0) (pre .1 .1 .1 .1 .1 .0) (pre .1 .1 .1 .1 .1 .1 .1 .1) ticks served spare
+        further-few (pre .1 .1 .0) (pre .1 .1 .1 .0) (pre .1 .1 .1 .1 .1 .0) (pre .1 .1 .1 .1 .1 .1 .1 .1 .0) ticks served spare
             (c .further .ensures),
-        further-works (pre .1 .1 .0) (pre .1 .1 .1 .0) (pre .1 .1 .1 .1 .1 .0) (pre .1 .1 .1 .1 .1 .1 .1 .1) ticks served spare
+        further-works (pre .1 .1 .0) (pre .1 .1 .1 .0) (pre .1 .1 .1 .1 .1 .0) (pre .1 .1 .1 .1 .1 .1 .1 .1 .0) ticks served spare
             (c .further .ensures),
       ),
     )
@@ -55,7 +58,7 @@ key-of-requires c κs =
     let start = c .before .before .before .before .before in
     let pre = start .pre in
     subst⁻¹ (λ (x : Server). x .deadline .tick * 64 + start .args .i ≤ lastTick) (c .budgets-on .ensures)
-    (last-key (pre .1 .1 .0) (pre .1 .1 .1 .0) (pre .1 .1 .1 .1 .1 .0) (pre .1 .1 .1 .1 .1 .1 .1 .1)
+    (last-key (pre .1 .1 .0) (pre .1 .1 .1 .0) (pre .1 .1 .1 .1 .1 .0) (pre .1 .1 .1 .1 .1 .1 .1 .1 .0)
     (c .before .before .before .before .least .ensures)
     (c .before .before .before .serve .ensures)
     (c .before .before .lesser .ensures)
@@ -65,24 +68,12 @@ key-of-requires c κs =
 spent-requires : tie.Need-spent-requires
 spent-requires c κs = search needs
 
-mul-t15 : tie.Need-mul-t15
-mul-t15 c =
+mul-t16 : tie.Need-mul-t16
+mul-t16 c =
     let pre = c .before .before .before .before .before .before .before .pre in
     search (
       needs,
-      gone-few (pre .1 .1 .0) (pre .1 .1 .1 .0) (pre .1 .1 .1 .1 .1 .0) (pre .1 .1 .1 .1 .1 .1 .1 .1)
-          (c .before .before .before .before .before .before .least .ensures)
-          (c .before .before .before .before .before .serve .ensures)
-          (c .before .before .before .before .lesser .ensures)
-          (c .before .before .before .further .ensures),
-    )
-
-add-t16 : tie.Need-add-t16
-add-t16 c =
-    let pre = c .before .before .before .before .before .before .before .pre in
-    search (
-      needs,
-      gone-few (pre .1 .1 .0) (pre .1 .1 .1 .0) (pre .1 .1 .1 .1 .1 .0) (pre .1 .1 .1 .1 .1 .1 .1 .1)
+      gone-few (pre .1 .1 .0) (pre .1 .1 .1 .0) (pre .1 .1 .1 .1 .1 .0) (pre .1 .1 .1 .1 .1 .1 .1 .1 .0)
           (c .before .before .before .before .before .before .least .ensures)
           (c .before .before .before .before .before .serve .ensures)
           (c .before .before .before .before .lesser .ensures)
@@ -91,13 +82,25 @@ add-t16 c =
 
 add-t17 : tie.Need-add-t17
 add-t17 c =
+    let pre = c .before .before .before .before .before .before .before .pre in
+    search (
+      needs,
+      gone-few (pre .1 .1 .0) (pre .1 .1 .1 .0) (pre .1 .1 .1 .1 .1 .0) (pre .1 .1 .1 .1 .1 .1 .1 .1 .0)
+          (c .before .before .before .before .before .before .least .ensures)
+          (c .before .before .before .before .before .serve .ensures)
+          (c .before .before .before .before .lesser .ensures)
+          (c .before .before .before .further .ensures),
+    )
+
+add-t18 : tie.Need-add-t18
+add-t18 c =
     let start = c .before .before .before .before .before .before .before in
     let pre = start .pre in
     let once = spent-once (c .before .before .before .before .before .before .least .result) (start .args .s .remaining .ticks) (c .spent .ensures) in
     search (
       needs,
       once,
-      further-few (pre .1 .1 .0) (pre .1 .1 .1 .0) (pre .1 .1 .1 .1 .1 .0) (pre .1 .1 .1 .1 .1 .1 .1 .1)
+      further-few (pre .1 .1 .0) (pre .1 .1 .1 .0) (pre .1 .1 .1 .1 .1 .0) (pre .1 .1 .1 .1 .1 .1 .1 .1 .0)
           (c .before .before .before .before .before .before .least .ensures)
           (c .before .before .before .before .before .serve .ensures)
           (c .before .before .before .before .lesser .ensures)
@@ -107,7 +110,7 @@ add-t17 c =
 returns : tie.Need-returns
 returns c =
     let pre = c .before .before .before .before .before .before .before .pre in
-    planned (pre .1 .1 .0) (pre .1 .1 .1 .0) (pre .1 .1 .1 .1 .1 .0) (pre .1 .1 .1 .1 .1 .1 .1 .1)
+    planned (pre .1 .1 .0) (pre .1 .1 .1 .0) (pre .1 .1 .1 .1 .1 .0) (pre .1 .1 .1 .1 .1 .1 .1 .1 .0)
     (c .before .before .before .before .before .before .least .ensures)
     (c .before .before .before .before .before .serve .ensures)
     (c .before .before .before .before .lesser .ensures)
@@ -132,7 +135,7 @@ plan-spec =
     budgets-on-requires
     key-of-requires
     spent-requires
-    mul-t15
-    add-t16
+    mul-t16
     add-t17
+    add-t18
     returns)

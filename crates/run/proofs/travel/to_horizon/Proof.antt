@@ -36,20 +36,20 @@ use Rattle.run.proofs.travel.to_horizon.Statement.{statement}
 use Rattle.run.proofs.travel.to_horizon.Tie as tie
 
 abbrev Inv-loop2 : tie.InvT-loop2
-Inv-loop2 file list finishes horizon job behind d₀ keys₀ left postponed interrupted c t j₀ next₀ d keys j next =
+Inv-loop2 file list finishes horizon levels job behind d₀ keys₀ left postponed interrupted c t j₀ next₀ d keys j next =
     Taking (work file) t j₀ d keys j next
 
 abbrev μ-loop2 : tie.MeasureT-loop2
-μ-loop2 file list finishes horizon job behind d₀ keys₀ left postponed interrupted c t j₀ next₀ d keys j next =
+μ-loop2 file list finishes horizon levels job behind d₀ keys₀ left postponed interrupted c t j₀ next₀ d keys j next =
     work file .arrivals - j
 
 abbrev Inv-loop : tie.InvT-loop
-Inv-loop file list₀ finishes₀ horizon job₀ behind d₀ keys₀ left₀ postponed₀ interrupted₀ c₀ t₀ j₀ next₀ list finishes job d keys left
+Inv-loop file list₀ finishes₀ horizon levels job₀ behind d₀ keys₀ left₀ postponed₀ interrupted₀ c₀ t₀ j₀ next₀ list finishes job d keys left
     postponed interrupted c t j next =
     Travels (work file) list₀ finishes₀ t j next d keys job left postponed interrupted list finishes c
 
 abbrev μ-loop : tie.MeasureT-loop
-μ-loop file list₀ finishes₀ horizon job₀ behind d₀ keys₀ left₀ postponed₀ interrupted₀ c₀ t₀ j₀ next₀ list finishes job d keys left
+μ-loop file list₀ finishes₀ horizon levels job₀ behind d₀ keys₀ left₀ postponed₀ interrupted₀ c₀ t₀ j₀ next₀ list finishes job d keys left
     postponed interrupted c t j next =
     horizon - t
 
@@ -83,7 +83,7 @@ long : (s : tie.After-next-moment Inv-loop2 μ-loop2 Inv-loop μ-loop) → its s
 long s = s .before .before .before .before .before .pre .1 .0
 
 lined : (s : tie.After-next-moment Inv-loop2 μ-loop2 Inv-loop μ-loop) → Lined (its s) 0 (s .before .before .before .before .before .args .job .now) (behind s)
-lined s = s .before .before .before .before .before .pre .1 .1 .1 .1 .1
+lined s = s .before .before .before .before .before .pre .1 .1 .1 .1 .1 .0
 
 fit : (s : tie.After-next-moment Inv-loop2 μ-loop2 Inv-loop μ-loop) → Fit (its s) (length (ends s))
 fit s = fit-beside (length (ends s)) (accepted s .fit) (long s)
@@ -329,7 +329,7 @@ go-requires c κs =
                         started (fit (start o)) v,
                         (
                           omega (arith, counted (fit (start o)) v, before-horizon (settled o)),
-                          (cut-few (fit (start o)) v, (postponed-few (fit (start o)) v _ (here o), v .segmented .places)),
+                          (cut-few (fit (start o)) v, (postponed-few (fit (start o)) v _ (here o), (v .segmented .places, start o .before .before .before .before .before .pre .1 .1 .1 .1 .1 .1))),
                         ),
                       ),
                     ),

@@ -17,24 +17,27 @@ use Rattle.run.proofs.travel.travel.Tie as tie
 header-of-requires : tie.Need-header-of-requires
 header-of-requires c κs = search needs
 
+levels-of-requires : tie.Need-levels-of-requires
+levels-of-requires c κs = search needs
+
 open-all-requires : tie.Need-open-all-requires
-open-all-requires c κs = omega (arith, arrivals-read _ (c .before .header-of .ensures), c .before .before .before .before .before .pre .1)
+open-all-requires c κs = omega (arith, arrivals-read _ (c .before .before .header-of .ensures), c .before .before .before .before .before .before .pre .1)
 
 line-up-requires : tie.Need-line-up-requires
 line-up-requires c κs = (
-  c .before .before .before .before .before .before .before .before .before .before .pre .0,
-  (ap (replicate mostServers) (arrivals-read _ (c .before .before .before .before .before .before .header-of .ensures)), length-replicate {A = ℕ} mostArrivals 0),
+  c .before .before .before .before .before .before .before .before .before .before .before .pre .0,
+  (ap (replicate mostServers) (arrivals-read _ (c .before .before .before .before .before .before .before .header-of .ensures)), length-replicate {A = ℕ} mostArrivals 0),
 )
 
 start-requires : tie.Need-start-requires
-start-requires c κs = c .before .before .before .before .before .before .before .before .before .before .before .before .before .pre .0
+start-requires c κs = c .before .before .before .before .before .before .before .before .before .before .before .before .before .before .pre .0
 
 -- The work, and the finish list before and behind `open_all`.
 abbrev its : tie.After-behind2 → Work
-its p = work (p .before .before .before .before .before .before .before .before .before .before .before .before .before .before .before .before .args .file .now)
+its p = work (p .before .before .before .before .before .before .before .before .before .before .before .before .before .before .before .before .before .args .file .now)
 
 abbrev ends : tie.After-behind2 → List ℕ
-ends p = p .before .before .before .before .before .before .before .before .before .before .before .before .before .before .before .before .args .finishes .now
+ends p = p .before .before .before .before .before .before .before .before .before .before .before .before .before .before .before .before .before .args .finishes .now
 
 abbrev opened : tie.After-behind2 → List ℕ
 opened p = p .before .before .before .before .before .before .before .before .before .before .open-all .last .0
@@ -42,7 +45,7 @@ opened p = p .before .before .before .before .before .before .before .before .be
 all-open : (p : tie.After-behind2) → opened p ≡ finishList (its p .arrivals) (λ k. isOpen) (ends p)
 all-open p =
     p .before .before .before .before .before .before .before .before .before .before .open-all .ensures
-    ∙ ap (λ (m : ℕ). finishList m (λ k. isOpen) (ends p)) (arrivals-read _ (p .before .before .before .before .before .before .before .before .before .before .before .before .header-of .ensures))
+    ∙ ap (λ (m : ℕ). finishList m (λ k. isOpen) (ends p)) (arrivals-read _ (p .before .before .before .before .before .before .before .before .before .before .before .before .before .header-of .ensures))
 
 -- to open every job once more changes nothing
 open-again : (p : tie.After-behind2) → opened p ≡ finishList (its p .arrivals) (λ k. isOpen) (opened p)
@@ -52,11 +55,11 @@ open-again p =
     ∙ ap (finishList (its p .arrivals) (λ k. isOpen)) (sym (all-open p))
 
 long : (p : tie.After-behind2) → its p .arrivals ≤ length (opened p)
-long p = omega (arith, ap length (all-open p), finishes-length (its p .arrivals) (ends p) (λ k. isOpen), p .before .before .before .before .before .before .before .before .before .before .before .before .before .before .before .before .pre .1)
+long p = omega (arith, ap length (all-open p), finishes-length (its p .arrivals) (ends p) (λ k. isOpen), p .before .before .before .before .before .before .before .before .before .before .before .before .before .before .before .before .before .pre .1)
 
 to-horizon-requires : tie.Need-to-horizon-requires
 to-horizon-requires c κs =
-    (c .before .before .before .before .before .before .before .before .before .before .before .before .before .before .before .before .pre .0, (long c, (open-again c, (horizon-read _ (c .before .before .before .before .before .before .before .before .before .before .before .before .header-of .ensures), (c .before .before .start .ensures, c .before .before .before .before .before .line-up .ensures)))))
+    (c .before .before .before .before .before .before .before .before .before .before .before .before .before .before .before .before .before .pre .0, (long c, (open-again c, (horizon-read _ (c .before .before .before .before .before .before .before .before .before .before .before .before .before .header-of .ensures), (c .before .before .start .ensures, (c .before .before .before .before .before .line-up .ensures, c .before .before .before .before .before .before .before .before .before .before .before .before .levels-of .ensures))))))
 
 -- what the run wrote over the open jobs
 finished : (c : tie.After-slice-known5)
@@ -89,6 +92,7 @@ travel-spec =
     tie.close
     (tie.spec
     header-of-requires
+    levels-of-requires
     open-all-requires
     line-up-requires
     start-requires
