@@ -1,1 +1,2 @@
+pub mod ArrivalLaws
 pub mod OneOutcome

@@ -1,1 +1,3 @@
+pub mod AdmissionLaws
 pub mod OneOutcome
+pub mod ShareLaws

@@ -1,4 +1,2 @@
 pub mod Admission
-pub mod AdmissionLaws
 pub mod Share
-pub mod ShareLaws

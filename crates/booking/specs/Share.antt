@@ -2,8 +2,8 @@
 use Prim.Native.Nat.{ℕ, _*_, _/_, _%_}
 use lib.Dec.{eqb, ltb}
 use mathlib.Core.Bool.{Bool, true, false, cond, not, _||_}
-use Rattle.clock.specs.declared.Length.{Length}
 use Rattle.clock.specs.Clock.{ticks}
+use Rattle.clock.specs.declared.Length.{Length}
 use Rattle.booking.specs.declared.Booking.{Booking}
 use Rattle.booking.specs.declared.Share.{Share}
 

@@ -13,14 +13,14 @@ use Rattle.moments.specs.Moments.{history}
 use Rattle.opening.specs.Opening.{listed, judged}
 use Rattle.refusal.specs.Refusals.{Said, refused, accepted}
 use Rattle.report.specs.DayReport.{dayReport}
-use Rattle.server.specs.declared.Server.{Server}
 use Rattle.server.specs.Moves.{woken}
+use Rattle.server.specs.declared.Server.{Server}
+use Rattle.summary.specs.Summary.{finishes, summaryOf}
 use Rattle.summary.specs.declared.Response.the-variants.{Absent}
 use Rattle.summary.specs.declared.Summary.{Summary}
-use Rattle.summary.specs.Summary.{finishes, summaryOf}
 use Rattle.text.specs.Line as line
-use Rattle.trace.specs.declared.Segment.{Segment}
 use Rattle.trace.specs.Trace.{trace}
+use Rattle.trace.specs.declared.Segment.{Segment}
 use Rattle.workfile.specs.Work.{work}
 
 pub data Example : Type 0 where

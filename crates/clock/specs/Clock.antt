@@ -1,8 +1,6 @@
 -- "A moment on the clock and a length of work or time are kept apart: a deadline is a moment, a budget is a length. Two moments
 -- are never added." (document 01) The clock of these definitions has no end.
-use Prim.Native.Nat.{ℕ, _+_, _-_, _≤_, min}
-use mathlib.Core.Path.{_≡_, ap}
-use native.Mathlib.Omega.{arith}
+use Prim.Native.Nat.{ℕ, _+_, _-_, min}
 use Rattle.clock.specs.declared.Length.{Length}
 use Rattle.clock.specs.declared.Moment.{Moment}
 
@@ -27,11 +25,3 @@ lastTick = 18_446_744_073_709_551_615
 -- what 64 bits show of a moment: the moment itself, up to the last one
 abbrev pub shown : Moment → Moment
 shown m = moment (min (m .tick) lastTick)
-
--- a moment up to the last is shown as it is
-pub shown-whole : (m : Moment) → m .tick ≤ lastTick → shown m ≡ m
-shown-whole m h = ap moment (omega arith)
-
--- to go on from a moment by what a later one lies ahead leads there
-pub later-until : (from to : Moment) → from .tick ≤ to .tick → later from (until from to) ≡ to
-later-until from to h = ap moment (omega arith)

@@ -1,43 +1,8 @@
 -- Whether every number below a bound passes a test.
-use Prim.Native.Nat.{ℕ, zero, suc, _<_}
-use mathlib.Core.Bool.{Bool, true, false, _&&_}
-use mathlib.Core.Logic.{⊎-elim}
-use mathlib.Core.Path.{_≡_, refl, subst⁻¹}
-use native.Mathlib.Nat.{eq-or-lt-of-le, le-of-suc-le-suc, not-suc-le-zero}
-use native.Mathlib.Omega.{arith}
-use Rattle.counting.specs.Tests.{and-left, and-right, and-both, not-both}
+use Prim.Native.Nat.{ℕ, zero, suc}
+use mathlib.Core.Bool.{Bool, true, _&&_}
 
 -- every number below n passes
 unfoldable pub every : ℕ → (ℕ → Bool) → Bool
 every zero p = true
 every (suc n) p = every n p && p n
-
--- what holds below n, and at n, holds below n + 1
-pub below-suc : (P : ℕ → Type 0) (n : ℕ) → ((i : ℕ) → i < n → P i) → P n → (i : ℕ) → i < suc n → P i
-below-suc P n below at i h =
-    ⊎-elim (λ (q : i ≡ n). subst⁻¹ P q at) (below i) (eq-or-lt-of-le (le-of-suc-le-suc h))
-
--- what every number passes, each passes
-pub every-at : (n : ℕ) (p : ℕ → Bool) → every n p ≡ true → (i : ℕ) → i < n → p i ≡ true
-unfolding every
-every-at zero p e i h = absurd (not-suc-le-zero h)
-every-at (suc n) p e i h =
-    below-suc (λ (j : ℕ). p j ≡ true) n
-    (every-at n p (and-left (every n p) (p n) e))
-    (and-right (every n p) (p n) e)
-    i
-    h
-
--- and what each passes, every number does
-pub every-from : (n : ℕ) (p : ℕ → Bool) → ((i : ℕ) → i < n → p i ≡ true) → every n p ≡ true
-unfolding every
-every-from zero p h = refl
-every-from (suc n) p h = and-both (every-from n p (λ i below. h i (omega arith))) (h n (omega arith))
-
--- one that fails is enough
-pub every-fails : (n : ℕ) (p : ℕ → Bool) (i : ℕ) → i < n → p i ≡ false → every n p ≡ false
-every-fails n p i h e = go (every n p) refl
-  where
-    go : (b : Bool) → every n p ≡ b → every n p ≡ false
-    go true q = not-both (every-at n p q i h) e
-    go false q = q

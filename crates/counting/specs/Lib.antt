@@ -3,5 +3,4 @@ pub mod Count
 pub mod First
 pub mod Places
 pub mod Sum
-pub mod Tests
 pub mod Totals

@@ -1,54 +1,9 @@
 -- The list of a function's values at the numbers below a bound.
-use Prim.Native.Nat.{ℕ, zero, suc, _<_, zero-le, suc-le-suc}
-use lib.ListN.{length, getD, replicate, set}
+use Prim.Native.Nat.{ℕ, zero, suc}
 use mathlib.Core.List.{List, [], _∷_}
-use mathlib.Core.Logic.{_≢_}
-use mathlib.Core.Path.{_≡_, refl, ap, ap₂}
-use native.Mathlib.Nat.{le-of-suc-le-suc, not-suc-le-zero}
-use native.Mathlib.Omega.{arith}
 
 module _ {A : Type 0} where
   -- f 0, f 1, .., f (n − 1)
   unfoldable pub places : ℕ → (ℕ → A) → List A
   places zero f = []
   places (suc n) f = f zero ∷ places n (λ i. f (suc i))
-
-  pub length-places : (n : ℕ) (f : ℕ → A) → length (places n f) ≡ n
-  unfolding places
-  length-places zero f = refl
-  length-places (suc n) f = ap suc (length-places n (λ i. f (suc i)))
-
-  pub getD-places : (n : ℕ) (f : ℕ → A) (i : ℕ) (d : A) → i < n → getD (places n f) i d ≡ f i
-  unfolding places
-  getD-places zero f i d h = absurd (not-suc-le-zero h)
-  getD-places (suc n) f zero d h = refl
-  getD-places (suc n) f (suc i) d h = getD-places n (λ j. f (suc j)) i d (le-of-suc-le-suc h)
-
-  -- functions that agree below n have the same list there
-  pub places-same : (n : ℕ) (f g : ℕ → A) → ((i : ℕ) → i < n → f i ≡ g i) → places n f ≡ places n g
-  unfolding places
-  places-same zero f g h = refl
-  places-same (suc n) f g h =
-      ap₂ _∷_ (h zero (suc-le-suc zero-le)) (places-same n (λ i. f (suc i)) (λ i. g (suc i)) (λ i b. h (suc i) (suc-le-suc b)))
-
-  -- the list of one value throughout
-  pub places-replicate : (n : ℕ) (a : A) → replicate n a ≡ places n (λ i. a)
-  unfolding places
-  places-replicate zero a = refl
-  places-replicate (suc n) a = ap (_∷_ a) (places-replicate n a)
-
-  -- another value at k
-  pub set-places : (n : ℕ) (f g : ℕ → A) (k : ℕ) → k < n → ((i : ℕ) → i ≢ k → f i ≡ g i) → set (places n f) k (g k) ≡ places n g
-  unfolding places
-  set-places zero f g k h same = absurd (not-suc-le-zero h)
-  set-places (suc n) f g zero h same =
-      ap (_∷_ (g zero)) (places-same n (λ i. f (suc i)) (λ i. g (suc i)) (λ i b. same (suc i) (omega arith)))
-  set-places (suc n) f g (suc k) h same =
-      ap₂ _∷_ (same zero (omega arith))
-      (set-places n (λ i. f (suc i)) (λ i. g (suc i)) k (le-of-suc-le-suc h) (λ i q. same (suc i) (omega arith)))
-
-  -- a list is the list of its own places
-  pub places-getD : (l : List A) (d : A) → places (length l) (λ i. getD l i d) ≡ l
-  unfolding places
-  places-getD [] d = refl
-  places-getD (a ∷ l) d = ap (_∷_ a) (places-getD l d)

@@ -4,9 +4,9 @@ use lib.Dec.{eqb, leb}
 use mathlib.Core.Bool.{Bool, false, cond, _&&_}
 use mathlib.Core.List.{List, [], _∷_}
 use Rattle.clock.specs.declared.Moment.{Moment}
-use Rattle.dispatcher.specs.declared.Dispatcher.{Dispatcher}
 use Rattle.dispatcher.specs.Course.{Move, anArrival, aTick, moved}
 use Rattle.dispatcher.specs.Moves.{tick}
+use Rattle.dispatcher.specs.declared.Dispatcher.{Dispatcher}
 use Rattle.history.specs.Choice.{Choice, nobody, given}
 use Rattle.moments.specs.Moments.{choiceOf}
 

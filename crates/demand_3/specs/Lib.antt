@@ -1,15 +1,5 @@
-pub mod AheadLaws
-pub mod BandwidthLaws
-pub mod CourseLaws
 pub mod Demand3
-pub mod Demand3Laws
 pub mod Files
-pub mod FilesLaws
 pub mod Got
 pub mod Live
-pub mod LiveLaws
-pub mod MovedLaws
-pub mod RunCourseLaws
-pub mod StandingLaws
 pub mod Traces
-pub mod TracesLaws

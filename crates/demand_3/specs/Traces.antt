@@ -2,15 +2,15 @@
 -- proves the first of every work that satisfies demand 3 moment by moment, and the second of every call of `run` that is accepted.
 use Prim.Native.Nat.{ℕ, _*_, _≤_, _<_}
 use mathlib.Core.List.{List}
-use Rattle.clock.specs.declared.Moment.{Moment}
 use Rattle.clock.specs.Clock.{moment, until}
+use Rattle.clock.specs.declared.Moment.{Moment}
 use Rattle.counting.specs.Sum.{sum}
 use Rattle.moments.specs.Moments.{history}
-use Rattle.trace.specs.declared.Segment.{Segment}
-use Rattle.trace.specs.SegmentLaws.{Every}
+use Rattle.trace.specs.Segments.{Every}
 use Rattle.trace.specs.Ticks.{endOf, ticksOf, added}
 use Rattle.trace.specs.Trace.{trace}
 use Rattle.trace.specs.Written.{fitting, segmentIn}
+use Rattle.trace.specs.declared.Segment.{Segment}
 use Rattle.workfile.specs.Work.{Work}
 use Rattle.demand_3.specs.Got.{isUnder}
 use Rattle.demand_3.specs.Files.{NoWorkAt}

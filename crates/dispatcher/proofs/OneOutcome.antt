@@ -1,11 +1,12 @@
 -- Each promise of this crate allows one outcome: what is said on paper tells the answer, and the dispatcher is given whole.
-use Rattle.outcome.specs.OneOutcome.{OneOutcome, both-are}
+use Rattle.outcome.specs.OneOutcome.{OneOutcome}
+use Rattle.outcome.proofs.OneOutcomeLaws.{both-are}
 use Rattle.refusal.specs.Refusals.{onPaper}
-use Rattle.refusal.specs.Told.{verdict-told}
+use Rattle.refusal.proofs.OnPaperLaws.{verdict-told}
 use Rattle.dispatcher.proofs.arrival.Reads as arrival
 use Rattle.dispatcher.proofs.tick.Reads as tick
 use Rattle.dispatcher.specs.Moves.{turnOf}
-use Rattle.dispatcher.specs.Told.{moved-told, turn-told}
+use Rattle.dispatcher.proofs.MoveOnPaperLaws.{moved-told, turn-told}
 
 pub arrival-one : OneOutcome arrival.Post
 arrival-one l a x y at-x at-y p q =

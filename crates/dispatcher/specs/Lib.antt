@@ -1,10 +1,5 @@
 pub mod Course
-pub mod MoveLaws
 pub mod Moves
 pub mod Pick
-pub mod PickLaws
-pub mod RefusedLaws
 pub mod Start
-pub mod StartLaws
-pub mod Told
 pub mod Within

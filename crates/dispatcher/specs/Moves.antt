@@ -3,13 +3,14 @@ use Prim.Native.Nat.{ℕ, _+_}
 use lib.Dec.{eqb, ltb}
 use lib.ListN.{set}
 use mathlib.Core.Bool.{Bool, cond}
+use mathlib.Core.Path.{_≡_}
 use Rattle.arrival.specs.Arrival.{faulty}
+use Rattle.clock.specs.Clock.{later, ticks}
 use Rattle.clock.specs.declared.Length.{Length}
 use Rattle.clock.specs.declared.Moment.{Moment}
-use Rattle.clock.specs.Clock.{later, ticks}
 use Rattle.refusal.specs.Refusals.{numberOf, placeOf, Said, refused, gave, accepted, onPaper}
-use Rattle.server.specs.declared.Server.{Server}
 use Rattle.server.specs.Moves.{arrived, oneTickLess, spent, served}
+use Rattle.server.specs.declared.Server.{Server}
 use Rattle.sizes.specs.Sizes.{clockEnd, mostWaiting}
 use Rattle.dispatcher.specs.declared.Arrived.{Arrived}
 use Rattle.dispatcher.specs.declared.Dispatcher.{Dispatcher}
@@ -96,3 +97,7 @@ turnOf (Refused r) = refused (numberOf r) (placeOf r)
 -- what the struct that a tick answers says
 abbrev pub tickSays : Ticked → Moved Turn
 tickSays r = record { answer = turnOf (r .answer); dispatcher = r .dispatcher }
+
+-- a move that is refused leaves d as it was
+abbrev pub LeavesRefused : {A : Type 0} → Dispatcher → Moved A → Type 0
+LeavesRefused d m = (number place : ℕ) → m .answer ≡ refused number place → m .dispatcher ≡ d

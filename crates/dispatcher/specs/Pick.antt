@@ -1,13 +1,14 @@
 -- Which server a tick goes to (document 01, "One moment of the clock", step 2): "Among servers with waiting work the one with the
 -- earliest deadline runs; equal deadlines go to the lower number. If there is none, the tick is idle."
-use Prim.Native.Nat.{ℕ}
+use Prim.Native.Nat.{ℕ, _≤_, _<_}
 use lib.Dec.{leb}
 use lib.ListN.{getD}
-use mathlib.Core.Bool.{Bool, not, _&&_, _||_}
+use mathlib.Core.Bool.{Bool, not, _&&_, _||_, true, false}
+use mathlib.Core.Path.{_≡_}
 use Rattle.counting.specs.Below.{every}
 use Rattle.counting.specs.First.{first}
-use Rattle.server.specs.declared.Server.{Server}
 use Rattle.server.specs.Server.{blank, idle}
+use Rattle.server.specs.declared.Server.{Server}
 use Rattle.dispatcher.specs.declared.Dispatcher.{Dispatcher}
 
 abbrev pub serverAt : Dispatcher → ℕ → Server
@@ -22,3 +23,15 @@ mayRun d i =
 -- the lowest number of those, and the count of servers where there is none
 unfoldable pub picked : Dispatcher → ℕ
 picked d = first (d .count) (mayRun d)
+
+-- "Among servers with waiting work the one with the earliest deadline runs; equal deadlines go to the lower number." Of the first k
+-- servers, that one is i:
+pub record Earliest (d : Dispatcher) (k i : ℕ) : Type 0 where
+  pub among : i < k
+  pub works : idle (serverAt d i) ≡ false
+  pub least : (j : ℕ) → j < k → idle (serverAt d j) ≡ false → serverAt d i .deadline .tick ≤ serverAt d j .deadline .tick
+  pub ties : (j : ℕ) → j < k → idle (serverAt d j) ≡ false → serverAt d j .deadline .tick ≡ serverAt d i .deadline .tick → i ≤ j
+
+-- none of the first k has work
+abbrev pub NoneWorks : Dispatcher → ℕ → Type 0
+NoneWorks d k = (j : ℕ) → j < k → idle (serverAt d j) ≡ true

@@ -3,11 +3,11 @@ use Prim.Native.Nat.{ℕ}
 use lib.Dec.{ltb}
 use mathlib.Core.Bool.{cond}
 use Rattle.booking.specs.Admission.{Table}
-use Rattle.clock.specs.declared.Length.{Length}
 use Rattle.clock.specs.Clock.{moment}
+use Rattle.clock.specs.declared.Length.{Length}
 use Rattle.counting.specs.Places.{places}
-use Rattle.server.specs.declared.Server.{Server}
 use Rattle.server.specs.Server.{blank, fresh}
+use Rattle.server.specs.declared.Server.{Server}
 use Rattle.sizes.specs.Sizes.{mostServers}
 use Rattle.dispatcher.specs.declared.Dispatcher.{Dispatcher}
 

@@ -1,3 +1,1 @@
 pub mod Finish
-pub mod FinishLaws
-pub mod ListLaws

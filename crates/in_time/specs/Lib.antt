@@ -1,3 +1,1 @@
-pub mod Live
-pub mod LiveLaws
-pub mod Segments
+pub mod working

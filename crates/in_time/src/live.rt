@@ -1,6 +1,6 @@
 // Plays File P on a live dispatcher, and writes for each tick that a server got how many ticks were left to its deadline when it ended.
 ghost use Prim.Native.Nat.{_≤_};
-ghost use Rattle.in_time.specs.Live.{Live};
+ghost use Rattle.in_time.specs.working.Live.{Live};
 use crate::say;
 use clock::Length;
 use clock::Moment;

@@ -3,7 +3,7 @@ ghost use Prim.Native.Nat.{_+_, _*_, _<_};
 ghost use lib.ListN.{length};
 ghost use mathlib.Core.Path.{_≡_};
 ghost use Rattle.demand_3.specs.Traces.{InTime};
-ghost use Rattle.in_time.specs.Segments.{AllInTime};
+ghost use Rattle.in_time.specs.working.Segments.{AllInTime};
 ghost use Rattle.trace.specs.Written.{segmentIn};
 use crate::say;
 use clock::Length;

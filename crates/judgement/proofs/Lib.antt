@@ -1,1 +1,5 @@
+pub mod FitLaws
+pub mod JudgementLaws
 pub mod OneOutcome
+pub mod PassedLaws
+pub mod RefusedLaws

@@ -1,5 +1,2 @@
-pub mod FitLaws
 pub mod Judgement
-pub mod JudgementLaws
-pub mod PassedLaws
-pub mod RefusedLaws
+pub mod working

@@ -1,4 +1,6 @@
+mod Walk
 pub mod Lending
 pub mod OneOutcome
+pub mod RefusedLaws
 pub mod TwoForms
-mod Walk
+pub mod TwoFormsLaws

@@ -1,8 +1,8 @@
 -- Each promise of this crate allows one outcome: what is said on paper tells the answer, and the dispatcher that is left is given whole.
 use Rattle.walks.specs.OneOutcome.{Claim, Gives, OneOutcomeLentWalked}
-use Rattle.walks.specs.Steps.{both-said}
+use Rattle.walks.proofs.Steps.{both-said}
 use Rattle.live_loop.specs.Lent.{ArrivalLeaves, TickLeaves}
-use Rattle.live_loop.specs.TwoForms.{arrival-agrees, tick-agrees}
+use Rattle.live_loop.proofs.TwoFormsLaws.{arrival-agrees, tick-agrees}
 use Rattle.live_loop.proofs.arrival as arrival
 use Rattle.live_loop.proofs.tick as tick
 

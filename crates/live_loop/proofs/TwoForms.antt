@@ -20,7 +20,7 @@ use Rattle.dispatcher.specs.declared.Ticked.{Ticked}
 use Rattle.dispatcher.proofs.arrival as by-value-arrival
 use Rattle.dispatcher.proofs.tick as by-value-tick
 use Rattle.refusal.specs.declared.Verdict.{Verdict}
-use Rattle.live_loop.specs.TwoForms.{arrival-agrees, tick-agrees}
+use Rattle.live_loop.proofs.TwoFormsLaws.{arrival-agrees, tick-agrees}
 use Rattle.live_loop.proofs.OneOutcome.{arrival-gives, tick-gives}
 use Rattle.live_loop.proofs.arrival as lent-arrival
 use Rattle.live_loop.proofs.tick as lent-tick

@@ -36,7 +36,7 @@ use denote.Triple.Walked.{says}
 use Rattle.dispatcher.specs.declared.Dispatcher.{Dispatcher}
 use Rattle.dispatcher.proofs.Dispatcher as D
 use Rattle.dispatcher.proofs.Dispatcher.Laws as D′
-use Rattle.walks.specs.Steps.{ensured-tells}
+use Rattle.walks.proofs.Steps.{ensured-tells}
 use Rattle.live_loop.proofs.Lending.{val as dVal, vals as dVals}
 
 -- that a machine value has its type, and that a dispatcher's has

@@ -2,14 +2,14 @@
 use Prim.Native.Nat.{ℕ}
 use mathlib.Core.Path.{_≡_}
 use Rattle.clock.specs.declared.Length.{Length}
+use Rattle.dispatcher.specs.Moves.{Moved, arrivalSays, arrival, turnOf, tickSays, tick}
+use Rattle.dispatcher.specs.Within.{Within}
 use Rattle.dispatcher.specs.declared.Arrived.{Arrived}
 use Rattle.dispatcher.specs.declared.Dispatcher.{Dispatcher}
 use Rattle.dispatcher.specs.declared.TickAnswer.{TickAnswer}
 use Rattle.dispatcher.specs.declared.Ticked.{Ticked}
-use Rattle.dispatcher.specs.Moves.{Moved, arrivalSays, arrival, turnOf, tickSays, tick}
-use Rattle.dispatcher.specs.Within.{Within}
-use Rattle.refusal.specs.declared.Verdict.{Verdict}
 use Rattle.refusal.specs.Refusals.{Said, onPaper}
+use Rattle.refusal.specs.declared.Verdict.{Verdict}
 
 -- what a lent move says, and the dispatcher that it leaves
 abbrev pub leaving : {A : Type 0} → Said A → Dispatcher → Moved A

@@ -1,4 +1,1 @@
-pub mod Played
-pub mod PlayedLaws
-pub mod Script
-pub mod ScriptLaws
+pub mod working

@@ -1,7 +1,7 @@
 // The moves of a list on a dispatcher that is passed and handed back.
 ghost use mathlib.Core.Path.{_≡_};
 ghost use Rattle.dispatcher.specs.Within.{Within};
-ghost use Rattle.live_moves.specs.Played.{movedBy, played};
+ghost use Rattle.live_moves.specs.working.Played.{movedBy, played};
 use crate::say;
 use crate::script;
 use crate::script::Move;

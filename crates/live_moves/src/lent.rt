@@ -1,7 +1,7 @@
 // The live loop: one dispatcher is kept, and lent to each move, which alters it there.
 ghost use mathlib.Core.Path.{_≡_};
 ghost use Rattle.dispatcher.specs.Within.{Within};
-ghost use Rattle.live_moves.specs.Played.{movedBy, played};
+ghost use Rattle.live_moves.specs.working.Played.{movedBy, played};
 use crate::say;
 use crate::script;
 use crate::script::Move;

@@ -1,7 +1,7 @@
 // A list of numbers as moves. Three numbers are a server, the cost of an arrival there, and how often that move is made; or a tick, 0, and how
 // often.
 ghost use mathlib.Core.Path.{_≡_};
-ghost use Rattle.live_moves.specs.Script.{moveAt, moveOf};
+ghost use Rattle.live_moves.specs.working.Script.{moveAt, moveOf};
 use clock::Length;
 
 // A tick, where a server's number would stand.

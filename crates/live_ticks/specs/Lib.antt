@@ -1,2 +1,1 @@
-pub mod Ticks
-pub mod TicksLaws
+pub mod working

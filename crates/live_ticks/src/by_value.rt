@@ -1,7 +1,7 @@
 // The dispatcher is passed to each tick, and handed back.
 ghost use mathlib.Core.Path.{_≡_};
 ghost use Rattle.dispatcher.specs.Within.{Within};
-ghost use Rattle.live_ticks.specs.Ticks.{tallied};
+ghost use Rattle.live_ticks.specs.working.Ticks.{tallied};
 use crate::tally;
 use crate::tally::Tallied;
 use dispatcher::Dispatcher;

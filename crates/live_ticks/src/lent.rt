@@ -1,7 +1,7 @@
 // One dispatcher is kept, and lent to each tick, which alters it there.
 ghost use mathlib.Core.Path.{_≡_};
 ghost use Rattle.dispatcher.specs.Within.{Within};
-ghost use Rattle.live_ticks.specs.Ticks.{tallied};
+ghost use Rattle.live_ticks.specs.working.Ticks.{tallied};
 use crate::tally;
 use crate::tally::Tallied;
 use dispatcher::Dispatcher;

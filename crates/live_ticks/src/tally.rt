@@ -2,7 +2,7 @@
 ghost use Prim.Native.Nat.{_-_, _^_};
 ghost use mathlib.Core.Path.{_≡_};
 ghost use Rattle.dispatcher.specs.Moves.{turnOf};
-ghost use Rattle.live_ticks.specs.Ticks.{UpTo, counted};
+ghost use Rattle.live_ticks.specs.working.Ticks.{UpTo, counted};
 use dispatcher::Dispatcher;
 use dispatcher::TickAnswer;
 

@@ -4,10 +4,10 @@ use Prim.Native.Nat.{ℕ, zero, suc}
 use lib.Dec.{eqb}
 use mathlib.Core.Bool.{Bool, false, cond, _&&_}
 use Rattle.counting.specs.Count.{count}
-use Rattle.dispatcher.specs.declared.Dispatcher.{Dispatcher}
 use Rattle.dispatcher.specs.Moves.{arrival, tick, Turn, idled, ranOne}
 use Rattle.dispatcher.specs.Pick.{serverAt}
 use Rattle.dispatcher.specs.Start.{atStart}
+use Rattle.dispatcher.specs.declared.Dispatcher.{Dispatcher}
 use Rattle.history.specs.Choice.{Choice, nobody, given, History}
 use Rattle.refusal.specs.Refusals.{Said, refused, gave}
 use Rattle.workfile.specs.Work.{Work}

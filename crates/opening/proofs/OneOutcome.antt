@@ -1,8 +1,9 @@
 -- The promise of this crate allows one outcome: what is said on paper tells the verdict, and the dispatcher is given whole.
-use Rattle.dispatcher.specs.Told.{moved-told}
-use Rattle.outcome.specs.OneOutcome.{OneOutcome, both-are}
+use Rattle.dispatcher.proofs.MoveOnPaperLaws.{moved-told}
+use Rattle.outcome.specs.OneOutcome.{OneOutcome}
+use Rattle.outcome.proofs.OneOutcomeLaws.{both-are}
 use Rattle.refusal.specs.Refusals.{onPaper}
-use Rattle.refusal.specs.Told.{verdict-told}
+use Rattle.refusal.proofs.OnPaperLaws.{verdict-told}
 use Rattle.opening.proofs.open_table.Reads as open-table
 
 pub open-table-one : OneOutcome open-table.Post

@@ -7,11 +7,11 @@ use mathlib.Core.Bool.{Bool, cond, not, _||_}
 use mathlib.Core.List.{List}
 use Rattle.booking.specs.Admission.{Table, admission}
 use Rattle.booking.specs.Share.{booked}
-use Rattle.clock.specs.declared.Length.{Length}
 use Rattle.clock.specs.Clock.{ticks}
-use Rattle.dispatcher.specs.declared.Dispatcher.{Dispatcher}
+use Rattle.clock.specs.declared.Length.{Length}
 use Rattle.dispatcher.specs.Moves.{Moved}
 use Rattle.dispatcher.specs.Start.{atStart}
+use Rattle.dispatcher.specs.declared.Dispatcher.{Dispatcher}
 use Rattle.refusal.specs.Refusals.{Said, refused, gave, onPaper}
 use Rattle.sizes.specs.Sizes.{mostFrame, mostServers}
 use Rattle.opening.specs.declared.Opened.{Opened}

@@ -1,5 +1,5 @@
 -- "Show that any two outcomes allowed by the statement are equal." (document 01, "What every promise says")
-use mathlib.Core.Path.{_≡_, sym, _∙_}
+use mathlib.Core.Path.{_≡_}
 
 -- Of a function's promise, which is its `ensures` as the check reads it, a claim of the lifetimes, the arguments, the result and what is
 -- lent at exit: whatever the arguments are, two results that it allows are equal. (For functions that are lent nothing to alter;
@@ -15,7 +15,3 @@ abbrev pub OneOutcomeLent {ℓ κ λ′ μ} : {L : Type ℓ} {A : L → Type κ}
 OneOutcomeLent {L = L} {A = A} {R = R} {E = E} promise left =
     (l : L) (a : A l) (x y : R l) (at-x at-y : E l) → promise l a x at-x → promise l a y at-y
     → (x ≡ y) × (left l at-x ≡ left l at-y)
-
--- what is equal to one thing is equal
-pub both-are {ℓ} : {A : Type ℓ} {x r s : A} → r ≡ x → s ≡ x → r ≡ s
-both-are p q = p ∙ sym q

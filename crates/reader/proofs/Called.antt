@@ -18,7 +18,7 @@ use ghost.Atoms.{Atoms}
 use mir.Val.{Val}
 use prog.Wp.{Heap}
 use types.Kit.{Given, Item, Goal, Soaks, Seq, Step, prop, ‵, raw, _⊛_, some, later, _$_, move, use1, split, pick, rewrite, suffices, await}
-use Rattle.walks.specs.Steps.{ensured-tells}
+use Rattle.walks.proofs.Steps.{ensured-tells}
 
 -- its promise, by what it ensures
 abbrev pub Ensures : {M : Type 1} (𝓤 : URA M) → Ended → Type 2

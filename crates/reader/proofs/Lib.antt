@@ -2,5 +2,6 @@ mod Called
 mod Going
 mod Held
 mod Kind
-pub mod OneOutcome
 mod Taking
+pub mod OneOutcome
+pub mod ReaderLaws

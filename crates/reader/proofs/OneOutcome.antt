@@ -1,7 +1,9 @@
 -- Each promise of this crate allows one outcome: it says what the result is.
 use base.Logic.{id⊢}
-use Rattle.outcome.specs.OneOutcome.{OneOutcome, both-are}
-use Rattle.walks.specs.OneOutcome.{OneOutcomeWalked, says-result}
+use Rattle.outcome.specs.OneOutcome.{OneOutcome}
+use Rattle.outcome.proofs.OneOutcomeLaws.{both-are}
+use Rattle.walks.specs.OneOutcome.{OneOutcomeWalked}
+use Rattle.walks.proofs.OneOutcomeLaws.{says-result}
 use Rattle.reader.proofs.arrival_from.Reads as arrival-from
 use Rattle.reader.proofs.booking_from.Reads as booking-from
 use Rattle.reader.proofs.moved_on as moved-on

@@ -1,4 +1,2 @@
-pub mod FilledLaws
-pub mod GrowthLaws
 pub mod Records
-pub mod RecordsLaws
+pub mod working

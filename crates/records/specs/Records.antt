@@ -9,8 +9,8 @@ use mathlib.Core.List.{List}
 use Rattle.counting.specs.Places.{places}
 use Rattle.finish.specs.Finish.{Finish, finishOf}
 use Rattle.sizes.specs.Sizes.{mostServers, openJob}
-use Rattle.summary.specs.declared.Summary.{Summary}
 use Rattle.summary.specs.Summary.{blank, arrivedOf, finishedOf, responses}
+use Rattle.summary.specs.declared.Summary.{Summary}
 use Rattle.workfile.specs.Work.{Work}
 
 -- the finish of job k as the list tells it: "the finish moment of arrival k, or 4,294,967,295 for an open job"; a job for which the list

@@ -1,5 +1,6 @@
 -- Each promise of this crate allows one outcome.
-use Rattle.outcome.specs.OneOutcome.{OneOutcome, both-are}
+use Rattle.outcome.specs.OneOutcome.{OneOutcome}
+use Rattle.outcome.proofs.OneOutcomeLaws.{both-are}
 use Rattle.refusal.proofs.number.Reads as number
 use Rattle.refusal.proofs.place.Reads as place
 

@@ -1,3 +1,1 @@
-pub mod AcceptedLaws
 pub mod Refusals
-pub mod Told

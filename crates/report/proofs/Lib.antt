@@ -1,1 +1,6 @@
+pub mod LengthLaws
+pub mod LineLengthLaws
 pub mod OneOutcome
+pub mod RanLaws
+pub mod ReportLaws
+pub mod ToldLaws

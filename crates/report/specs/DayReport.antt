@@ -4,20 +4,20 @@ use lib.ListN.{length, take}
 use mathlib.Core.List.{List, [], _∷_, _++_}
 use Rattle.arrival.specs.declared.Arrival.{Arrival}
 use Rattle.booking.specs.Admission.{shares}
-use Rattle.clock.specs.declared.Moment.{Moment}
 use Rattle.clock.specs.Clock.{moment, until}
+use Rattle.clock.specs.declared.Moment.{Moment}
 use Rattle.finish.specs.Finish.{Finish, isOpen, at}
 use Rattle.judgement.specs.Judgement.{judged}
 use Rattle.moments.specs.Moments.{history}
 use Rattle.refusal.specs.Refusals.{Said, refused, gave}
 use Rattle.sizes.specs.Sizes.{mostArrivals, mostShown}
-use Rattle.summary.specs.declared.Response.{Response}
-use Rattle.summary.specs.declared.Response.the-variants.{Absent, Over}
-use Rattle.summary.specs.declared.Summary.{Summary}
 use Rattle.summary.specs.Summary.{finishes, summaryOf}
+use Rattle.summary.specs.declared.Response.the-variants.{Absent, Over}
+use Rattle.summary.specs.declared.Response.{Response}
+use Rattle.summary.specs.declared.Summary.{Summary}
 use Rattle.text.specs.Line.{Field, word, number, line, each}
-use Rattle.trace.specs.declared.Segment.{Segment}
 use Rattle.trace.specs.Trace.{trace}
+use Rattle.trace.specs.declared.Segment.{Segment}
 use Rattle.workfile.specs.Work.{Work, work}
 
 -- "A refused file prints one line, `refused`, number, place."
@@ -87,3 +87,7 @@ reportOf (gave u) w = acceptedReport w (trace (history w) (w .horizon .tick))
 -- The day report of a file. The run is lent a finish list of 4,096 places, so that 9 cannot occur.
 unfoldable pub dayReport : List ℕ → List ℕ
 dayReport file = reportOf (judged file mostArrivals) (work file)
+
+-- room for any report
+abbrev pub mostBytes : ℕ
+mostBytes = 262_144

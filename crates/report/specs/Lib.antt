@@ -1,7 +1,2 @@
 pub mod DayReport
-pub mod LengthLaws
-pub mod LineLengthLaws
-pub mod RanLaws
-pub mod ReportLaws
-pub mod Told
-pub mod ToldLaws
+pub mod working

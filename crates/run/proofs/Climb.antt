@@ -7,7 +7,7 @@ use mathlib.Core.Logic.{_≢_}
 use mathlib.Core.Path.{_≡_, refl, _∙_, subst⁻¹}
 use native.Mathlib.Decide.{ℕ-discrete}
 use native.Mathlib.Omega.{arith}
-use Rattle.books.specs.Winners.{keyAt, Lesser, Winners, Set, Beside, beside-cases}
+use Rattle.books.proofs.tree.Winners.{keyAt, Lesser, Winners, Set, Beside, beside-cases}
 
 -- `stored` is the tree with the key stored, and `tree` what it is when the climb has reached `at`: its keys are the same, and what lies
 -- ahead is as it was.

@@ -1,2 +1,4 @@
 pub mod Climb
 pub mod OneOutcome
+pub mod OutcomeLaws
+pub mod OutcomeOnPaperLaws

@@ -1,6 +1,7 @@
 -- The promise of this crate allows one outcome: what is said on paper tells the answer, and both lent lists are given whole.
-use Rattle.outcome.specs.OneOutcome.{OneOutcomeLent, both-are}
-use Rattle.run.specs.Told.{lists, ran-told}
+use Rattle.outcome.specs.OneOutcome.{OneOutcomeLent}
+use Rattle.outcome.proofs.OneOutcomeLaws.{both-are}
+use Rattle.run.proofs.OutcomeOnPaperLaws.{lists, ran-told}
 use Rattle.run.proofs.run.Reads as run
 
 pub run-one : OneOutcomeLent run.Post (λ l e. lists (e .1 .0 .now) (e .1 .1 .0 .now))

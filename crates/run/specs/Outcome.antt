@@ -7,8 +7,8 @@ use Rattle.judgement.specs.Judgement.{judged}
 use Rattle.moments.specs.Moments.{history}
 use Rattle.refusal.specs.Refusals.{Said, refused, gave, accepted, onPaper}
 use Rattle.sizes.specs.Sizes.{mostServers}
-use Rattle.summary.specs.declared.Summary.{Summary}
 use Rattle.summary.specs.Summary as summary
+use Rattle.summary.specs.declared.Summary.{Summary}
 use Rattle.trace.specs.Trace.{trace}
 use Rattle.trace.specs.Written.{written}
 use Rattle.workfile.specs.Work.{Work, work}

@@ -2,9 +2,9 @@
 ghost use Prim.Native.Nat.{_≤_, _<_};
 ghost use lib.ListN.{length, getD, replicate};
 ghost use mathlib.Core.Path.{_≡_};
-ghost use Rattle.books.specs.Accepted.{Accepted};
-ghost use Rattle.books.specs.Lined.{Lined};
-ghost use Rattle.books.specs.Opened.{Opened, Served, WentOn};
+ghost use Rattle.books.proofs.Accepted.{Accepted};
+ghost use Rattle.books.proofs.jobs.Lined.{Lined};
+ghost use Rattle.books.proofs.jobs.Opened.{Opened, Served, WentOn};
 ghost use Rattle.finish.specs.Finish.{finishList, isOpen};
 ghost use Rattle.sizes.specs.Sizes.{clockEnd, mostArrivals, mostServers};
 ghost use Rattle.workfile.specs.Work.{work};

@@ -1,7 +1,7 @@
 // The arrivals of an accepted file, read where they lie.
 ghost use mathlib.Core.Path.{_≡_};
 ghost use Prim.Native.Nat.{_<_};
-ghost use Rattle.books.specs.Accepted.{Accepted, nextMoment};
+ghost use Rattle.books.proofs.Accepted.{Accepted, nextMoment};
 ghost use Rattle.workfile.specs.Work.{work};
 use arrival::Arrival;
 

@@ -1,9 +1,9 @@
 // A server through several ticks at once.
 ghost use mathlib.Core.Path.{_≡_};
 ghost use Prim.Native.Nat.{_+_, _*_, _≤_, min};
-ghost use Rattle.books.specs.Keys.{keyOf};
+ghost use Rattle.books.proofs.tree.Keys.{keyOf};
 ghost use Rattle.clock.specs.Clock.{lastTick};
-ghost use Rattle.moments.specs.OneGo.{servedFor};
+ghost use Rattle.moments.proofs.OneGo.{servedFor};
 use clock::Length;
 use server::Server;
 

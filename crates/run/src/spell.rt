@@ -3,12 +3,12 @@
 ghost use mathlib.Core.Path.{_≡_};
 ghost use Prim.Native.Nat.{_+_, _*_, _≤_, _<_};
 ghost use lib.ListN.{length, getD};
-ghost use Rattle.books.specs.Budgets.{Able, NoneAbove, currentOn, interruptedOn, traceOn};
-ghost use Rattle.books.specs.Planned.{Planned};
-ghost use Rattle.books.specs.Segmented.{withWaits};
-ghost use Rattle.books.specs.Turns.{currentThen, interruptedThen, traceThen};
-ghost use Rattle.books.specs.Went.{Went};
-ghost use Rattle.books.specs.Winners.{Winners};
+ghost use Rattle.books.proofs.budgets.Budgets.{Able, NoneAbove, currentOn, interruptedOn, traceOn};
+ghost use Rattle.books.proofs.spell.Planned.{Planned};
+ghost use Rattle.books.proofs.stretches.Segmented.{withWaits};
+ghost use Rattle.books.proofs.stretches.Turns.{currentThen, interruptedThen, traceThen};
+ghost use Rattle.books.proofs.spell.SpellLeaves.{Went};
+ghost use Rattle.books.proofs.tree.Winners.{Winners};
 ghost use Rattle.sizes.specs.Sizes.{clockEnd, mostFrame, mostServers};
 use crate::budgets;
 use crate::serving;

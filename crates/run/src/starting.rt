@@ -1,6 +1,6 @@
 // The dispatcher of an accepted file at its start.
 ghost use mathlib.Core.Path.{_≡_};
-ghost use Rattle.books.specs.Accepted.{Accepted};
+ghost use Rattle.books.proofs.Accepted.{Accepted};
 ghost use Rattle.moments.specs.Moments.{atMoment};
 ghost use Rattle.workfile.specs.Work.{work};
 use clock::Moment;

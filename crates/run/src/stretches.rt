@@ -2,9 +2,9 @@
 ghost use mathlib.Core.Path.{_≡_};
 ghost use Prim.Native.Nat.{_≤_, _<_};
 ghost use lib.ListN.{getD};
-ghost use Rattle.books.specs.Segmented.{atRest};
-ghost use Rattle.books.specs.Stretches.{traceAfter, countAfter, interruptedAfter};
-ghost use Rattle.books.specs.Turns.{stays, currentThen, traceThen, interruptedThen};
+ghost use Rattle.books.proofs.stretches.Segmented.{atRest};
+ghost use Rattle.books.proofs.stretches.Stretches.{traceAfter, countAfter, interruptedAfter};
+ghost use Rattle.books.proofs.stretches.Turns.{stays, currentThen, traceThen, interruptedThen};
 ghost use Rattle.clock.specs.Clock.{lastTick, moment};
 ghost use Rattle.sizes.specs.Sizes.{mostServers};
 use books::Current;

@@ -1,8 +1,8 @@
 // An arrival is taken by its server.
 ghost use mathlib.Core.Path.{_≡_};
 ghost use Prim.Native.Nat.{_+_, _≤_, _<_};
-ghost use Rattle.books.specs.Keys.{keyOf};
-ghost use Rattle.books.specs.Winners.{Winners, Set};
+ghost use Rattle.books.proofs.tree.Keys.{keyOf};
+ghost use Rattle.books.proofs.tree.Winners.{Winners, Set};
 ghost use Rattle.server.specs.Moves.{arrived};
 ghost use Rattle.server.specs.Ranges.{Ranged};
 ghost use Rattle.sizes.specs.Sizes.{clockEnd, mostWaiting};

@@ -2,9 +2,9 @@
 ghost use Prim.Native.Nat.{_≤_, _<_};
 ghost use lib.ListN.{length};
 ghost use mathlib.Core.Path.{_≡_};
-ghost use Rattle.books.specs.Accepted.{Accepted};
-ghost use Rattle.books.specs.Came.{Came};
-ghost use Rattle.books.specs.Lined.{Lined};
+ghost use Rattle.books.proofs.Accepted.{Accepted};
+ghost use Rattle.books.proofs.travel.AtHorizon.{Came};
+ghost use Rattle.books.proofs.jobs.Lined.{Lined};
 ghost use Rattle.finish.specs.Finish.{finishList, isOpen};
 ghost use Rattle.moments.specs.Moments.{atMoment};
 ghost use Rattle.workfile.specs.Work.{work};

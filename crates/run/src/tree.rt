@@ -1,7 +1,7 @@
 // A winner tree over the keys of 64 servers: the keys stand at places 64 to 127, each place p from 1 to 63 holds the lesser of those
 // at 2p and 2p + 1, and place 0 is unused. So place 1 holds the least key, and a changed key changes only what stands above it.
 ghost use Prim.Native.Nat.{_<_};
-ghost use Rattle.books.specs.Winners.{Winners, Beside, Set, Rival};
+ghost use Rattle.books.proofs.tree.Winners.{Winners, Beside, Set, Rival};
 use crate::serving::lesser;
 
 // Sets the key of server i, and what stands above it up to the root. Mostly it was the least of all, so that all of that changes.

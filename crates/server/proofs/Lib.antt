@@ -1,1 +1,5 @@
+pub mod MoveLaws
 pub mod OneOutcome
+pub mod Potential
+pub mod PotentialLaws
+pub mod RangeLaws

@@ -1,5 +1,6 @@
 -- Each promise of this crate allows one outcome.
-use Rattle.outcome.specs.OneOutcome.{OneOutcome, both-are}
+use Rattle.outcome.specs.OneOutcome.{OneOutcome}
+use Rattle.outcome.proofs.OneOutcomeLaws.{both-are}
 use Rattle.server.proofs.fresh.Reads as fresh
 use Rattle.server.proofs.blank.Reads as blank
 

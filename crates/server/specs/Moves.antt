@@ -2,9 +2,9 @@
 use Prim.Native.Nat.{_+_, _-_, _*_}
 use lib.Dec.{eqb, leb}
 use mathlib.Core.Bool.{Bool, cond, _||_}
+use Rattle.clock.specs.Clock.{later, until, ticks}
 use Rattle.clock.specs.declared.Length.{Length}
 use Rattle.clock.specs.declared.Moment.{Moment}
-use Rattle.clock.specs.Clock.{later, until, ticks}
 use Rattle.server.specs.declared.Server.{Server}
 use Rattle.server.specs.Server.{idle}
 

@@ -2,8 +2,8 @@
 -- deadline d and its waiting work w".
 use lib.Dec.{eqb}
 use mathlib.Core.Bool.{Bool}
-use Rattle.booking.specs.declared.Booking.{Booking}
 use Rattle.booking.specs.Share.{booked}
+use Rattle.booking.specs.declared.Booking.{Booking}
 use Rattle.clock.specs.Clock.{moment, ticks}
 use Rattle.server.specs.declared.Server.{Server}
 

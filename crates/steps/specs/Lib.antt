@@ -1,2 +1,2 @@
-pub mod StepLaws
 pub mod Steps
+pub mod working

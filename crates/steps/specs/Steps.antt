@@ -4,12 +4,12 @@
 use Prim.Native.Nat.{ℕ, _+_, _*_}
 use lib.Dec.{ltb}
 use mathlib.Core.Bool.{Bool, cond, _||_}
+use Rattle.clock.specs.Clock.{lastTick, later}
 use Rattle.clock.specs.declared.Length.{Length}
 use Rattle.clock.specs.declared.Moment.{Moment}
-use Rattle.clock.specs.Clock.{lastTick, later}
-use Rattle.server.specs.declared.Server.{Server}
 use Rattle.server.specs.Moves.{arrived, served, spent}
 use Rattle.server.specs.Server.{idle}
+use Rattle.server.specs.declared.Server.{Server}
 use Rattle.sizes.specs.Sizes.{clockEnd, mostFrame, mostWaiting}
 
 -- no deadline of a dispatcher is later: the first lies at most T ahead, each of at most 2,419,200 ticks postpones by T, and T is at most

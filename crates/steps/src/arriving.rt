@@ -3,7 +3,7 @@ ghost use mathlib.Core.Path.{_≡_};
 ghost use Prim.Native.Nat.{_+_, _≤_};
 ghost use Rattle.server.specs.Moves.{renews, arrived};
 ghost use Rattle.sizes.specs.Sizes.{mostWaiting};
-ghost use Rattle.steps.specs.StepLaws.{Fits};
+ghost use Rattle.steps.specs.working.Fits.{Fits};
 use crate::refill;
 use clock::Length;
 use clock::Moment;

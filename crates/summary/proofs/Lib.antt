@@ -1,1 +1,3 @@
+pub mod BoundLaws
 pub mod OneOutcome
+pub mod SummaryLaws

@@ -1,3 +1,1 @@
-pub mod BoundLaws
 pub mod Summary
-pub mod SummaryLaws

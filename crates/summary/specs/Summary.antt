@@ -12,9 +12,9 @@ use Rattle.counting.specs.Totals.{total, longest}
 use Rattle.finish.specs.Finish.{Finish, isOpen, at, finish}
 use Rattle.moments.specs.Moments.{history, postponedBy, waitingAt}
 use Rattle.sizes.specs.Sizes.{mostServers}
-use Rattle.trace.specs.declared.Segment.{Segment}
 use Rattle.trace.specs.Ticks.{endOf}
 use Rattle.trace.specs.Trace.{trace}
+use Rattle.trace.specs.declared.Segment.{Segment}
 use Rattle.workfile.specs.Work.{Work}
 use Rattle.summary.specs.declared.Response.{Response}
 use Rattle.summary.specs.declared.Response.the-variants.{Absent, Over}

@@ -1,1 +1,4 @@
+pub mod LengthLaws
+pub mod LineLaws
 pub mod OneOutcome
+pub mod PageLaws

@@ -1,5 +1,2 @@
-pub mod LengthLaws
 pub mod Line
-pub mod LineLaws
 pub mod Page
-pub mod PageLaws

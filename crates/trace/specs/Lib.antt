@@ -1,9 +1,4 @@
-pub mod HeldLaws
-pub mod SegmentLaws
-pub mod StretchLaws
-pub mod TickLaws
+pub mod Segments
 pub mod Ticks
 pub mod Trace
-pub mod TraceLaws
 pub mod Written
-pub mod WrittenLaws

@@ -1,4 +1,1 @@
-pub mod Locals
 pub mod OneOutcome
-pub mod Steps
-pub mod Turns

@@ -2,8 +2,8 @@
 use Prim.Native.Nat.{ℕ, _+_}
 use mathlib.Core.List.{List}
 use Rattle.arrival.specs.declared.Arrival.{Arrival}
-use Rattle.booking.specs.declared.Booking.{Booking}
 use Rattle.booking.specs.Share.{booked}
+use Rattle.booking.specs.declared.Booking.{Booking}
 use Rattle.clock.specs.Clock.{moment, ticks}
 use Rattle.numbers.specs.Word.{word}
 use Rattle.workfile.specs.declared.Header.{Header}

@@ -6,7 +6,7 @@ use native.Mathlib.Omega.{arith}
 use Rattle.booking.proofs.share_of.Statement.{statement}
 use Rattle.booking.proofs.share_of.Tie as tie
 use Rattle.booking.specs.Share.{faulty}
-use Rattle.booking.specs.ShareLaws.{Sound, sound, share-le-frame}
+use Rattle.booking.proofs.ShareLaws.{Sound, sound, share-le-frame}
 
 is-faulty-requires : tie.Need-is-faulty-requires
 is-faulty-requires c κs = search needs

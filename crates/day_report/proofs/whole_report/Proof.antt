@@ -1,8 +1,8 @@
 -- `day_report::whole_report` meets its promise: the text has room for any report.
 use lib.Seq.{length-take-le}
 use mathlib.Core.Path.{sym}
-use Rattle.report.specs.LengthLaws.{report-whole}
-use Rattle.text.specs.PageLaws.{added-within}
+use Rattle.report.proofs.LengthLaws.{report-whole}
+use Rattle.text.proofs.PageLaws.{added-within}
 use Rattle.day_report.proofs.whole_report.Statement.{statement}
 use Rattle.day_report.proofs.whole_report.Tie as tie
 

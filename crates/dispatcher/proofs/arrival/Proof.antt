@@ -6,11 +6,11 @@ use mathlib.Core.Bool.{false}
 use mathlib.Core.Path.{_≡_, sym, _∙_}
 use native.Mathlib.Omega.{arith}
 use Rattle.arrival.specs.Arrival.{faulty}
-use Rattle.arrival.specs.ArrivalLaws.{sound}
+use Rattle.arrival.proofs.ArrivalLaws.{sound}
 use Rattle.server.specs.Ranges.{Ranged}
 use Rattle.sizes.specs.Sizes.{mostServers, mostWaiting}
-use Rattle.steps.specs.StepLaws.{arrival-ranged}
-use Rattle.dispatcher.specs.MoveLaws.{arrival-faulty, arrival-too-much, arrival-whole, arrival-within, and-within}
+use Rattle.steps.proofs.StepLaws.{arrival-ranged}
+use Rattle.dispatcher.proofs.MoveLaws.{arrival-faulty, arrival-too-much, arrival-whole, arrival-within, and-within}
 use Rattle.dispatcher.proofs.arrival.Statement.{statement}
 use Rattle.dispatcher.proofs.arrival.Tie as tie
 

@@ -2,7 +2,7 @@
 use borrow.Author.Needs.{needs}
 use mathlib.Core.Path.{_∙_}
 use native.Mathlib.Omega.{arith}
-use Rattle.clock.specs.Clock.{shown-whole}
+use Rattle.clock.proofs.ClockLaws.{shown-whole}
 use Rattle.dispatcher.proofs.pass.Statement.{statement}
 use Rattle.dispatcher.proofs.pass.Tie as tie
 

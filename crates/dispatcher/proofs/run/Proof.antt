@@ -7,9 +7,9 @@ use lib.Dec.{eqb}
 use mathlib.Core.Path.{_≡_, sym, _∙_}
 use native.Mathlib.Decide.{ℕ-discrete}
 use native.Mathlib.Omega.{arith}
-use Rattle.server.specs.RangeLaws.{busy-charged}
+use Rattle.server.proofs.RangeLaws.{busy-charged}
 use Rattle.server.specs.Ranges.{Ranged}
-use Rattle.steps.specs.StepLaws.{tick-ranged}
+use Rattle.steps.proofs.StepLaws.{tick-ranged}
 use Rattle.dispatcher.specs.Moves.{ran}
 use Rattle.dispatcher.specs.Pick.{serverAt}
 use Rattle.dispatcher.proofs.run.Statement.{statement}

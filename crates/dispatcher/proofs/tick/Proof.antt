@@ -3,9 +3,9 @@
 use Prim.Native.Nat.{ℕ, _≤_, _<_}
 use borrow.Author.Needs.{needs}
 use mathlib.Core.Path.{sym, _∙_, subst}
-use Rattle.dispatcher.specs.MoveLaws.{tick-ended, tick-ran, tick-idle, before-end, tick-within, and-within}
+use Rattle.dispatcher.proofs.MoveLaws.{tick-ended, tick-ran, tick-idle, before-end, tick-within, and-within}
 use Rattle.dispatcher.specs.Pick.{picked}
-use Rattle.dispatcher.specs.PickLaws.{picked-earliest}
+use Rattle.dispatcher.proofs.PickLaws.{picked-earliest}
 use Rattle.dispatcher.proofs.tick.Statement.{statement}
 use Rattle.dispatcher.proofs.tick.Tie as tie
 

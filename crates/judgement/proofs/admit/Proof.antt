@@ -5,7 +5,7 @@ use mathlib.Core.Path.{_≡_, sym, subst}
 use native.Mathlib.Nat.{le-antisymm, mul-le-mul}
 use native.Mathlib.Numerals.{add-one}
 use native.Mathlib.Omega.{arith}
-use Rattle.booking.specs.AdmissionLaws.{Sofar, sofar-none, sofar-more, sofar-le, sofar-faulty, sofar-over, sofar-whole}
+use Rattle.booking.proofs.AdmissionLaws.{Sofar, sofar-none, sofar-more, sofar-le, sofar-faulty, sofar-over, sofar-whole}
 use Rattle.booking.specs.Share.{shareOf}
 use Rattle.workfile.specs.Work.{workUnder}
 use Rattle.judgement.proofs.admit.Statement.{statement}

@@ -8,7 +8,7 @@ use native.Mathlib.Omega.{arith}
 use Rattle.refusal.specs.Refusals.{onPaper}
 use Rattle.workfile.specs.Work.{workUnder}
 use Rattle.judgement.specs.Judgement.{lengthOutOfRange, sizesOutOfRange, layoutBroken, workJudged, judged}
-use Rattle.judgement.specs.JudgementLaws.{sized, narrow, judged-length, judged-sizes, judged-layout, judged-work, work-admitted, work-refused}
+use Rattle.judgement.proofs.JudgementLaws.{sized, narrow, judged-length, judged-sizes, judged-layout, judged-work, work-admitted, work-refused}
 use Rattle.judgement.proofs.judge.Statement.{statement}
 use Rattle.judgement.proofs.judge.Tie as tie
 

@@ -8,7 +8,7 @@ use native.Mathlib.Numerals.{add-one}
 use native.Mathlib.Omega.{arith}
 use Rattle.arrival.specs.Arrival.{faulty}
 use Rattle.workfile.specs.Work.{workUnder}
-use Rattle.judgement.specs.PassedLaws.{Passed, passed-none, passed-more, passed-faulty, passed-backward, passed-late, passed-over, passed-whole}
+use Rattle.judgement.proofs.PassedLaws.{Passed, passed-none, passed-more, passed-faulty, passed-backward, passed-late, passed-over, passed-whole}
 use Rattle.judgement.proofs.judge_arrivals.Statement.{statement}
 use Rattle.judgement.proofs.judge_arrivals.Tie as tie
 

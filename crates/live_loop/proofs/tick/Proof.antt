@@ -36,7 +36,7 @@ use Rattle.dispatcher.proofs.tick as by-value
 use Rattle.dispatcher.specs.Within.{Within}
 use Rattle.dispatcher.specs.declared.Dispatcher.{Dispatcher}
 use Rattle.dispatcher.specs.declared.Ticked.{Ticked}
-use Rattle.walks.specs.Steps.{both-said, says-both}
+use Rattle.walks.proofs.Steps.{both-said, says-both}
 use Rattle.live_loop.proofs.Lending.{vals as dVals}
 use Rattle.live_loop.proofs.Walk.{Back, Known, moves, asks, tells, hands-back}
 use Rattle.live_loop.proofs.tick as lent

@@ -1,7 +1,7 @@
 -- `numbers::word_at` meets its promise: behind the end a number is 0, and the others are read by the way that fits.
 use borrow.Author.Needs.{needs}
 use mathlib.Core.Path.{sym}
-use Rattle.numbers.specs.WordLaws.{word-behind}
+use Rattle.numbers.proofs.WordLaws.{word-behind}
 use Rattle.numbers.proofs.word_at.Statement.{statement}
 use Rattle.numbers.proofs.word_at.Tie as tie
 

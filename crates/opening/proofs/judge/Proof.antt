@@ -8,10 +8,10 @@ use mathlib.Core.Path.{_≡_, sym, _∙_, subst}
 use native.Mathlib.Nat.{le-antisymm, mul-le-mul}
 use native.Mathlib.Numerals.{add-one}
 use native.Mathlib.Omega.{arith}
-use Rattle.booking.specs.AdmissionLaws.{Sofar, sofar-none, sofar-more, sofar-le, sofar-faulty, sofar-over, sofar-whole}
+use Rattle.booking.proofs.AdmissionLaws.{Sofar, sofar-none, sofar-more, sofar-le, sofar-faulty, sofar-over, sofar-whole}
 use Rattle.booking.specs.Share.{shareOf}
 use Rattle.opening.specs.Opening.{listed, outOfRange}
-use Rattle.opening.specs.OpeningLaws.{InRange, judged-out-of-range, judged-in-range, in-range}
+use Rattle.opening.proofs.OpeningLaws.{InRange, judged-out-of-range, judged-in-range, in-range}
 use Rattle.opening.proofs.judge.Statement.{statement}
 use Rattle.opening.proofs.judge.Tie as tie
 

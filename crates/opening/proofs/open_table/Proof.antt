@@ -1,9 +1,9 @@
 -- `opening::open_table` meets its promise: the answer is the judgement, and each of its two cases hands back its dispatcher.
 use borrow.Author.Needs.{needs}
 use mathlib.Core.Path.{sym, _∙_, ap}
-use Rattle.dispatcher.specs.MoveLaws.{and-within}
+use Rattle.dispatcher.proofs.MoveLaws.{and-within}
 use Rattle.refusal.specs.Refusals.{onPaper}
-use Rattle.opening.specs.OpeningLaws.{accepted-in-range, opening-accepted, opening-refused, opening-within}
+use Rattle.opening.proofs.OpeningLaws.{accepted-in-range, opening-accepted, opening-refused, opening-within}
 use Rattle.opening.proofs.open_table.Statement.{statement}
 use Rattle.opening.proofs.open_table.Tie as tie
 

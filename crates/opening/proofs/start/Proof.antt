@@ -8,7 +8,7 @@ use native.Mathlib.Numerals.{add-one}
 use native.Mathlib.Omega.{arith}
 use Rattle.counting.specs.Places.{places}
 use Rattle.dispatcher.specs.Start.{startAt, atStart}
-use Rattle.dispatcher.specs.StartLaws.{firstOf, start-none, start-more}
+use Rattle.dispatcher.proofs.StartLaws.{firstOf, start-none, start-more}
 use Rattle.sizes.specs.Sizes.{mostServers}
 use Rattle.opening.specs.Opening.{listed}
 use Rattle.opening.proofs.start.Statement.{statement}

@@ -4,7 +4,7 @@ use contract.Monad.{factI}
 use contract.Running.{givenOf, tables, tablesOf}
 use denote.Triple.Spec.{tripleOf}
 use denote.Triple.Table.{entered, cited}
-use Rattle.reader.specs.ReaderLaws.{arrivalAt-sent}
+use Rattle.reader.proofs.ReaderLaws.{arrivalAt-sent}
 use Rattle.reader.proofs.Going.{New, MovedOn, Taken, going-meets}
 use Rattle.reader.proofs.Kind.{arrivals}
 use Rattle.reader.proofs.arrival_from as arrival-from

@@ -4,7 +4,7 @@ use contract.Monad.{factI}
 use contract.Running.{givenOf, tables, tablesOf}
 use denote.Triple.Spec.{tripleOf}
 use denote.Triple.Table.{entered, cited}
-use Rattle.reader.specs.ReaderLaws.{bookingAt-sent}
+use Rattle.reader.proofs.ReaderLaws.{bookingAt-sent}
 use Rattle.reader.proofs.Going.{New, MovedOn, Taken, going-meets}
 use Rattle.reader.proofs.Kind.{bookings}
 use Rattle.reader.proofs.booking_from as booking-from

@@ -6,7 +6,7 @@ use lib.ListN.{length}
 use mathlib.Core.Path.{_≡_, sym, _∙_, ap}
 use native.Mathlib.Numerals.{add-one}
 use native.Mathlib.Omega.{arith}
-use Rattle.records.specs.FilledLaws.{filled-none, filled-all, filled-more}
+use Rattle.records.proofs.FilledLaws.{filled-none, filled-all, filled-more}
 use Rattle.records.specs.Records.{filled}
 use Rattle.records.proofs.fill.Statement.{statement}
 use Rattle.records.proofs.fill.Tie as tie

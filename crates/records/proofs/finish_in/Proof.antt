@@ -3,7 +3,7 @@ use borrow.Author.Needs.{needs}
 use lib.ListN.{List·getD-eq-default}
 use mathlib.Core.Path.{sym}
 use Rattle.sizes.specs.Sizes.{openJob}
-use Rattle.records.specs.GrowthLaws.{place-read}
+use Rattle.records.proofs.GrowthLaws.{place-read}
 use Rattle.records.proofs.finish_in.Statement.{statement}
 use Rattle.records.proofs.finish_in.Tie as tie
 

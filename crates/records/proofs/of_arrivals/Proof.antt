@@ -11,7 +11,8 @@ use Rattle.arrival.specs.declared.Arrival.{Arrival}
 use Rattle.sizes.specs.Sizes.{arrivalBytes}
 use Rattle.workfile.specs.Layout.{arrivalAt, header}
 use Rattle.workfile.specs.Work.{work}
-use Rattle.records.specs.GrowthLaws.{recordsUpTo, records-none, records-stay, records-more, records-roomy}
+use Rattle.records.specs.working.Job.{recordsUpTo}
+use Rattle.records.proofs.GrowthLaws.{records-none, records-stay, records-more, records-roomy}
 use Rattle.records.proofs.of_arrivals.Statement.{statement}
 use Rattle.records.proofs.of_arrivals.Tie as tie
 

@@ -6,12 +6,13 @@ use lib.ListN.{getD}
 use mathlib.Core.List.{List}
 use mathlib.Core.Path.{_≡_, _∙_, ap}
 use native.Mathlib.Omega.{arith}
-use Rattle.numbers.specs.WordLaws.{word-fits}
+use Rattle.numbers.proofs.WordLaws.{word-fits}
 use Rattle.sizes.specs.Sizes.{openJob}
 use Rattle.workfile.specs.declared.Header.{Header}
 use Rattle.workfile.specs.Layout.{header}
 use Rattle.workfile.specs.Work.{work}
-use Rattle.records.specs.GrowthLaws.{recordsUpTo, records-all}
+use Rattle.records.specs.working.Job.{recordsUpTo}
+use Rattle.records.proofs.GrowthLaws.{records-all}
 use Rattle.records.proofs.of_jobs.Statement.{statement}
 use Rattle.records.proofs.of_jobs.Tie as tie
 

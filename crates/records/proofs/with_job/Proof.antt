@@ -1,8 +1,8 @@
 -- `records::with_job` meets its promise: a job that is open in the list has arrived, and any other has finished at the number there.
 use borrow.Author.Needs.{needs}
 use native.Mathlib.Omega.{arith}
-use Rattle.finish.specs.ListLaws.{finish-of-open, finish-of-at}
-use Rattle.records.specs.GrowthLaws.{withJob}
+use Rattle.finish.proofs.ListLaws.{finish-of-open, finish-of-at}
+use Rattle.records.specs.working.Job.{withJob}
 use Rattle.records.proofs.with_job.Statement.{statement}
 use Rattle.records.proofs.with_job.Tie as tie
 

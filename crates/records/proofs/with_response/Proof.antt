@@ -5,7 +5,7 @@ use mathlib.Core.Path.{sym, _∙_, ap}
 use native.Mathlib.Omega.{arith}
 use Rattle.clock.specs.Clock.{ticks}
 use Rattle.summary.specs.declared.Response.the-variants.{Over}
-use Rattle.summary.specs.SummaryLaws.{totalOf, total-over, with-response-first, with-response-more}
+use Rattle.summary.proofs.SummaryLaws.{totalOf, total-over, with-response-first, with-response-more}
 use Rattle.records.proofs.with_response.Statement.{statement}
 use Rattle.records.proofs.with_response.Tie as tie
 

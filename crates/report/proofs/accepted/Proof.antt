@@ -3,14 +3,14 @@ use Prim.Native.Nat.{ℕ}
 use lib.ListN.{getD, length}
 use mathlib.Core.Path.{ap, ap₂, _∙_}
 use native.Mathlib.Omega.{arith}
-use Rattle.books.specs.Accepted.{frame-read, servers-read}
+use Rattle.books.proofs.Accepted.{frame-read, servers-read}
 use Rattle.clock.specs.declared.Length.{Length}
 use Rattle.report.specs.DayReport.{admittedLine, serverLine}
-use Rattle.report.specs.ReportLaws.{ends-long, report-told}
+use Rattle.report.proofs.ReportLaws.{ends-long, report-told}
 use Rattle.summary.specs.Summary.{blank}
 use Rattle.text.specs.Line.{each}
 use Rattle.text.specs.Page.{Page}
-use Rattle.text.specs.PageLaws.{added-as, added-length}
+use Rattle.text.proofs.PageLaws.{added-as, added-length}
 use Rattle.report.proofs.accepted.Statement.{statement}
 use Rattle.report.proofs.accepted.Tie as tie
 

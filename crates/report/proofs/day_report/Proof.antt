@@ -4,13 +4,12 @@ use borrow.Author.Needs.{needs}
 use lib.ListN.{length}
 use mathlib.Core.List.{List}
 use mathlib.Core.Path.{_≡_, sym, _∙_, ap}
-use Rattle.report.specs.RanLaws.{ran-told, report-accepted, report-refused}
-use Rattle.report.specs.Told.{Left}
+use Rattle.report.proofs.RanLaws.{ran-told, report-accepted, report-refused, Left}
 use Rattle.run.specs.declared.Ran.{Ran}
 use Rattle.run.specs.Outcome.{outcome, says}
 use Rattle.sizes.specs.Sizes.{mostArrivals, traceNumbers}
 use Rattle.text.specs.Page.{Page}
-use Rattle.text.specs.PageLaws.{added-as, added-length}
+use Rattle.text.proofs.PageLaws.{added-as, added-length}
 use Rattle.report.proofs.day_report.Statement.{statement}
 use Rattle.report.proofs.day_report.Tie as tie
 

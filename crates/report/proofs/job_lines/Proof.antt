@@ -4,13 +4,13 @@ use lib.ListN.{length, getD}
 use mathlib.Core.Path.{_≡_, _∙_, ap}
 use native.Mathlib.Omega.{arith}
 use Rattle.arrival.specs.declared.Arrival.{Arrival}
-use Rattle.books.specs.Accepted.{arrival-read, arrivals-read}
+use Rattle.books.proofs.Accepted.{arrival-read, arrivals-read}
 use Rattle.finish.specs.Finish.{finishOf}
 use Rattle.report.specs.DayReport.{jobWith}
-use Rattle.report.specs.Told.{jobIn}
+use Rattle.report.specs.working.AfterRun.{jobIn}
 use Rattle.text.specs.Line.{each}
 use Rattle.text.specs.Page.{Page, page, added}
-use Rattle.text.specs.PageLaws.{added-as, added-length, each-none, each-next, each-all}
+use Rattle.text.proofs.PageLaws.{added-as, added-length, each-none, each-next, each-all}
 use Rattle.workfile.specs.Work.{work}
 use Rattle.report.proofs.job_lines.Statement.{statement}
 use Rattle.report.proofs.job_lines.Tie as tie

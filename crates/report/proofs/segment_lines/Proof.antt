@@ -7,7 +7,7 @@ use native.Mathlib.Omega.{arith}
 use Rattle.report.specs.DayReport.{segmentLine}
 use Rattle.text.specs.Line.{each}
 use Rattle.text.specs.Page.{Page, page, added}
-use Rattle.text.specs.PageLaws.{added-as, added-length, each-none, each-next, each-all}
+use Rattle.text.proofs.PageLaws.{added-as, added-length, each-none, each-next, each-all}
 use Rattle.trace.specs.Written.{segmentIn}
 use Rattle.report.proofs.segment_lines.Statement.{statement}
 use Rattle.report.proofs.segment_lines.Tie as tie

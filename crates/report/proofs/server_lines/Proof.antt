@@ -8,7 +8,7 @@ use Rattle.report.specs.DayReport.{serverLine}
 use Rattle.summary.specs.Summary.{blank}
 use Rattle.text.specs.Line.{each}
 use Rattle.text.specs.Page.{Page, page, added}
-use Rattle.text.specs.PageLaws.{added-length, each-none, each-next, each-all}
+use Rattle.text.proofs.PageLaws.{added-length, each-none, each-next, each-all}
 use Rattle.report.proofs.server_lines.Statement.{statement}
 use Rattle.report.proofs.server_lines.Tie as tie
 

@@ -8,10 +8,10 @@ use native.Mathlib.Nat.{div-add-mod, le-antisymm, mul-le-mul}
 use native.Mathlib.Numerals.{add-one}
 use native.Mathlib.Omega.{arith}
 use Rattle.booking.specs.declared.Booking.{Booking}
-use Rattle.booking.specs.AdmissionLaws.{Sofar, sofar-none, sofar-more, sofar-le}
+use Rattle.booking.proofs.AdmissionLaws.{Sofar, sofar-none, sofar-more, sofar-le}
 use Rattle.booking.specs.Share.{faulty, shareOf}
-use Rattle.booking.specs.ShareLaws.{Sound, shareOf-faulty}
-use Rattle.books.specs.Accepted.{booking-read, frame-read, servers-read}
+use Rattle.booking.proofs.ShareLaws.{Sound, shareOf-faulty}
+use Rattle.books.proofs.Accepted.{booking-read, frame-read, servers-read}
 use Rattle.clock.specs.declared.Length.{Length}
 use Rattle.workfile.specs.Work.{work}
 use Rattle.report.proofs.shares.Statement.{statement}

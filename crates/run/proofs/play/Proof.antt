@@ -1,11 +1,11 @@
 -- `run::play` meets its promise: the run leaves the trace and the finishes, and what the finishes and the counts tell is the summary.
 use borrow.Author.Needs.{needs}
 use mathlib.Core.Path.{_∙_}
-use Rattle.books.specs.Accepted.{judged-accepted}
-use Rattle.books.specs.Told.{summaries-told}
-use Rattle.judgement.specs.FitLaws.{judged-fit}
+use Rattle.books.proofs.Accepted.{judged-accepted}
+use Rattle.books.proofs.travel.Summaries.{summaries-told}
+use Rattle.judgement.proofs.FitLaws.{judged-fit}
 use Rattle.refusal.specs.Refusals.{accepted}
-use Rattle.run.specs.OutcomeLaws.{made}
+use Rattle.run.proofs.OutcomeLaws.{made}
 use Rattle.run.proofs.play.Statement.{statement}
 use Rattle.run.proofs.play.Tie as tie
 

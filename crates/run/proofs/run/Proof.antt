@@ -4,7 +4,7 @@ use mathlib.Core.Path.{refl, sym, _∙_, ap}
 use Rattle.refusal.specs.declared.Verdict.{Verdict}
 use Rattle.refusal.specs.Refusals.{onPaper}
 use Rattle.run.specs.Outcome.{says}
-use Rattle.run.specs.OutcomeLaws.{made, outcome-accepted, outcome-refused}
+use Rattle.run.proofs.OutcomeLaws.{made, outcome-accepted, outcome-refused}
 use Rattle.run.proofs.run.Statement.{statement}
 use Rattle.run.proofs.run.Tie as tie
 

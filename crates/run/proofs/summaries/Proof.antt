@@ -3,7 +3,7 @@ use Prim.Native.Nat.{ℕ}
 use borrow.Author.Needs.{needs}
 use mathlib.Core.List.{List}
 use mathlib.Core.Path.{_∙_, ap₂}
-use Rattle.books.specs.Accepted.{servers-read}
+use Rattle.books.proofs.Accepted.{servers-read}
 use Rattle.records.specs.Records.{filled}
 use Rattle.summary.specs.declared.Summary.{Summary}
 use Rattle.run.proofs.summaries.Statement.{statement}

@@ -5,10 +5,10 @@ use mathlib.Core.Bool.{false}
 use mathlib.Core.Path.{_≡_, sym, _∙_, ap}
 use native.Mathlib.Nat.{pos-of-ne-zero}
 use native.Mathlib.Omega.{arith}
-use Rattle.clock.specs.Clock.{shown-whole}
-use Rattle.server.specs.MoveLaws.{served-last, served-more}
+use Rattle.clock.proofs.ClockLaws.{shown-whole}
+use Rattle.server.proofs.MoveLaws.{served-last, served-more}
 use Rattle.server.specs.Moves.{oneTickLess, refilled}
-use Rattle.steps.specs.StepLaws.{Ready, not-unserved, tick-unserved, tick-served}
+use Rattle.steps.proofs.StepLaws.{Ready, not-unserved, tick-unserved, tick-served}
 use Rattle.steps.specs.Steps.{unserved}
 use Rattle.steps.proofs.serve.Statement.{statement}
 use Rattle.steps.proofs.serve.Tie as tie

@@ -2,7 +2,7 @@
 use borrow.Author.Needs.{needs}
 use borrow.Author.Tests.{ltb-true, ltb-false}
 use mathlib.Core.Path.{sym, _∙_}
-use Rattle.steps.specs.StepLaws.{not-beyond, arrival-beyond, arrival-too-much, arrival-taken}
+use Rattle.steps.proofs.StepLaws.{not-beyond, arrival-beyond, arrival-too-much, arrival-taken}
 use Rattle.steps.proofs.take.Statement.{statement}
 use Rattle.steps.proofs.take.Tie as tie
 

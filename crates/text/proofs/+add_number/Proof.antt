@@ -9,9 +9,9 @@ use mathlib.Core.Logic.{⊎-elim}
 use mathlib.Core.Path.{_≡_, sym, _∙_, ap, ap₂}
 use native.Mathlib.Omega.{arith}
 use Rattle.text.specs.Line.{digit, decimal}
-use Rattle.text.specs.LineLaws.{decimal-last, decimal-more}
+use Rattle.text.proofs.LineLaws.{decimal-last, decimal-more}
 use Rattle.text.specs.Page.{Page, page, added}
-use Rattle.text.specs.PageLaws.{added-as, added-length, added-then}
+use Rattle.text.proofs.PageLaws.{added-as, added-length, added-then}
 use Rattle.text.proofs.add_number.Reads as add-number
 use Rattle.text.proofs.add_number.Kinds as add-number-kinds
 use Rattle.text.proofs.+add_number.Lts-add_number as lts

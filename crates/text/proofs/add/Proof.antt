@@ -5,7 +5,7 @@ use lib.ListN.{length, take}
 use mathlib.Core.Path.{_≡_, sym, _∙_, ap}
 use native.Mathlib.Omega.{arith}
 use Rattle.text.specs.Page.{Page, page, added}
-use Rattle.text.specs.PageLaws.{added-none, added-next, added-all, added-length}
+use Rattle.text.proofs.PageLaws.{added-none, added-next, added-all, added-length}
 use Rattle.text.proofs.add.Statement.{statement}
 use Rattle.text.proofs.add.Tie as tie
 

@@ -1,6 +1,6 @@
 -- `text::add_byte` meets its promise: the one test asks whether there is room.
 use borrow.Author.Needs.{needs}
-use Rattle.text.specs.PageLaws.{added-byte, added-full}
+use Rattle.text.proofs.PageLaws.{added-byte, added-full}
 use Rattle.text.proofs.add_byte.Statement.{statement}
 use Rattle.text.proofs.add_byte.Tie as tie
 

@@ -3,7 +3,7 @@ use borrow.Author.Needs.{needs}
 use lib.ListN.{length-set}
 use mathlib.Core.Path.{sym}
 use native.Mathlib.Omega.{arith}
-use Rattle.trace.specs.WrittenLaws.{put-fits, put-short}
+use Rattle.trace.proofs.WrittenLaws.{put-fits, put-short}
 use Rattle.trace.proofs.write.Statement.{statement}
 use Rattle.trace.proofs.write.Tie as tie
 

@@ -1,7 +1,7 @@
 -- `workfile::arrival_at` meets its promise: three numbers, and behind the end three zeros.
 use borrow.Author.Needs.{needs}
 use mathlib.Core.Path.{sym}
-use Rattle.workfile.specs.LayoutLaws.{arrivalAt-behind}
+use Rattle.workfile.proofs.LayoutLaws.{arrivalAt-behind}
 use Rattle.workfile.specs.Layout.{arrivalAt}
 use Rattle.workfile.proofs.arrival_at.Statement.{statement}
 use Rattle.workfile.proofs.arrival_at.Tie as tie

@@ -1,7 +1,7 @@
 -- `workfile::booking_at` meets its promise: two numbers, and behind the end two zeros.
 use borrow.Author.Needs.{needs}
 use mathlib.Core.Path.{sym}
-use Rattle.workfile.specs.LayoutLaws.{bookingAt-behind}
+use Rattle.workfile.proofs.LayoutLaws.{bookingAt-behind}
 use Rattle.workfile.specs.Layout.{bookingAt}
 use Rattle.workfile.proofs.booking_at.Statement.{statement}
 use Rattle.workfile.proofs.booking_at.Tie as tie

@@ -9,13 +9,13 @@ use native.Mathlib.Numerals.{add-one}
 use native.Mathlib.Omega.{arith}
 use Rattle.clock.specs.declared.Moment.{Moment}
 use Rattle.clock.specs.Clock.{lastTick, moment}
-use Rattle.counting.specs.Tests.{not-both}
+use Rattle.counting.proofs.TestLaws.{not-both}
 use Rattle.server.specs.declared.Server.{Server}
-use Rattle.server.specs.RangeLaws.{deadline-fits}
+use Rattle.server.proofs.RangeLaws.{deadline-fits}
 use Rattle.server.specs.Server.{idle}
 use Rattle.dispatcher.specs.declared.Dispatcher.{Dispatcher}
-use Rattle.dispatcher.specs.Pick.{serverAt, picked}
-use Rattle.dispatcher.specs.PickLaws.{Earliest, NoneWorks, none-more, earliest-first, earliest-stays, earliest-moves, earliest-picked, none-picked}
+use Rattle.dispatcher.specs.Pick.{serverAt, picked, Earliest, NoneWorks}
+use Rattle.dispatcher.proofs.PickLaws.{none-more, earliest-first, earliest-stays, earliest-moves, earliest-picked, none-picked}
 use Rattle.dispatcher.specs.Within.{Within}
 use Rattle.dispatcher.proofs.picking.pick.Statement.{statement}
 use Rattle.dispatcher.proofs.picking.pick.Tie as tie

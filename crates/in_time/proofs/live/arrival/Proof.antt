@@ -1,5 +1,5 @@
 -- `in_time::live::arrival` meets its promise: an arrival is a move.
-use Rattle.in_time.specs.LiveLaws.{live-arrived}
+use Rattle.in_time.proofs.LiveLaws.{live-arrived}
 use Rattle.in_time.proofs.live.arrival.Statement.{statement}
 use Rattle.in_time.proofs.live.arrival.Tie as tie
 

@@ -1,6 +1,6 @@
 -- `in_time::live::open` is safe: the dispatcher of an accepted table is live.
 use borrow.Author.Needs.{needs}
-use Rattle.in_time.specs.LiveLaws.{live-opened}
+use Rattle.in_time.proofs.LiveLaws.{live-opened}
 use Rattle.in_time.proofs.live.open.Statement.{statement}
 use Rattle.in_time.proofs.live.open.Tie as tie
 

@@ -1,7 +1,7 @@
 -- `in_time::live::tick` meets its promise: a tick is a move, and one that a server got ended no later than its deadline, by demand 3.
 use borrow.Author.Needs.{needs}
-use Rattle.demand_3.specs.LiveLaws.{live-demand-3}
-use Rattle.in_time.specs.LiveLaws.{live-ticked}
+use Rattle.demand_3.proofs.LiveLaws.{live-demand-3}
+use Rattle.in_time.proofs.LiveLaws.{live-ticked}
 use Rattle.in_time.proofs.live.tick.Statement.{statement}
 use Rattle.in_time.proofs.live.tick.Tie as tie
 

@@ -1,6 +1,6 @@
 -- `in_time::live::ticks` meets its promise: every turn's dispatcher is live, as the tick promises.
 use borrow.Author.Needs.{needs}
-use Rattle.in_time.specs.Live.{Live}
+use Rattle.in_time.specs.working.Live.{Live}
 use Rattle.in_time.proofs.live.ticks.Statement.{statement}
 use Rattle.in_time.proofs.live.ticks.Tie as tie
 

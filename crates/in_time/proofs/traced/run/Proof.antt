@@ -1,6 +1,6 @@
 -- `in_time::traced::run` is safe: demand 3 holds of the trace list that the run of an accepted file leaves.
 use borrow.Author.Needs.{needs}
-use Rattle.demand_3.specs.TracesLaws.{ran-list-demand-3}
+use Rattle.demand_3.proofs.TracesLaws.{ran-list-demand-3}
 use Rattle.in_time.proofs.traced.run.Statement.{statement}
 use Rattle.in_time.proofs.traced.run.Tie as tie
 

@@ -4,8 +4,8 @@ use borrow.Author.Needs.{needs}
 use mathlib.Core.Path.{_≡_, ap, ap₂, _∙_}
 use native.Mathlib.Omega.{arith}
 use Rattle.dispatcher.specs.Within.{Within}
-use Rattle.live_moves.specs.Played.{movedBy, played}
-use Rattle.live_moves.specs.PlayedLaws.{played-none, played-next}
+use Rattle.live_moves.specs.working.Played.{movedBy, played}
+use Rattle.live_moves.proofs.PlayedLaws.{played-none, played-next}
 use Rattle.live_moves.proofs.by_value.play.Statement.{statement}
 use Rattle.live_moves.proofs.by_value.play.Tie as tie
 

@@ -51,13 +51,13 @@ use Rattle.dispatcher.specs.declared.Dispatcher.{Dispatcher}
 use Rattle.dispatcher.specs.Within.{Within}
 use Rattle.dispatcher.proofs.Dispatcher as D
 use Rattle.dispatcher.proofs.Dispatcher.Laws as D′
-use Rattle.walks.specs.Steps.{says-both}
-use Rattle.walks.specs.Locals.{Blocks, placed, local-at, room, cell, frees-each, alloc-all, free-all, held}
-use Rattle.walks.specs.Turns.{Begun, Fewer, fewer-ends, next, next-fewer, fits-still, all-taken}
+use Rattle.walks.proofs.Steps.{says-both}
+use Rattle.walks.proofs.Locals.{Blocks, placed, local-at, room, cell, frees-each, alloc-all, free-all, held}
+use Rattle.walks.proofs.Turns.{Begun, Fewer, fewer-ends, next, next-fewer, fits-still, all-taken}
 use Rattle.live_moves.specs.declared.script.Move.{Move}
-use Rattle.live_moves.specs.Played.{movedBy, played}
-use Rattle.live_moves.specs.PlayedLaws.{played-none, played-next, played-within}
-use Rattle.live_moves.specs.Script.{moveAt}
+use Rattle.live_moves.specs.working.Played.{movedBy, played}
+use Rattle.live_moves.proofs.PlayedLaws.{played-none, played-next, played-within}
+use Rattle.live_moves.specs.working.Script.{moveAt}
 use Rattle.live_loop.proofs.Lending.{val, vals, laid, taken-up}
 use Rattle.live_moves.proofs.script.Move as Mv
 use Rattle.live_moves.proofs.script.Move.Laws as Mv′

@@ -64,11 +64,11 @@ use Rattle.refusal.specs.declared.Verdict.{Verdict}
 use Rattle.refusal.specs.Refusals.{onPaper}
 use Rattle.refusal.proofs.Verdict as Vd
 use Rattle.refusal.proofs.Verdict.Laws as Vd′
-use Rattle.walks.specs.Steps.{says-both}
-use Rattle.walks.specs.Locals.{Blocks, placed, room, cell, frees-each, alloc-all, free-all, held}
+use Rattle.walks.proofs.Steps.{says-both}
+use Rattle.walks.proofs.Locals.{Blocks, placed, room, cell, frees-each, alloc-all, free-all, held}
 use Rattle.live_moves.specs.declared.script.Move.{Move}
 use Rattle.live_moves.specs.declared.script.Move.the-variants.{Tick, Arrival}
-use Rattle.live_moves.specs.Played.{movedBy}
+use Rattle.live_moves.specs.working.Played.{movedBy}
 use Rattle.live_loop.proofs.Lending.{val as d-val, vals as d-vals}
 use Rattle.live_moves.proofs.script.Move as Mv
 use Rattle.live_moves.proofs.script.Move.Laws as Mv′

@@ -5,8 +5,8 @@ use borrow.Author.Tests.{lt-ltb, le-ltb}
 use lib.ListN.{length, drop}
 use mathlib.Core.Path.{_≡_, refl, sym, _∙_}
 use native.Mathlib.Omega.{arith}
-use Rattle.live_moves.specs.Script.{moveAt}
-use Rattle.live_moves.specs.ScriptLaws.{moveAt-three, moveAt-short}
+use Rattle.live_moves.specs.working.Script.{moveAt}
+use Rattle.live_moves.proofs.ScriptLaws.{moveAt-three, moveAt-short}
 use Rattle.live_moves.proofs.script.nth.Statement.{statement}
 use Rattle.live_moves.proofs.script.nth.Tie as tie
 

@@ -5,8 +5,8 @@ use mathlib.Core.Path.{_≡_, ap, _∙_}
 use native.Mathlib.Omega.{arith}
 use Rattle.dispatcher.specs.Within.{Within}
 use Rattle.live_ticks.specs.declared.tally.Tally.{Tally}
-use Rattle.live_ticks.specs.Ticks.{tallied}
-use Rattle.live_ticks.specs.TicksLaws.{having, tallied-none, tallied-next, tallied-fits}
+use Rattle.live_ticks.specs.working.Ticks.{tallied}
+use Rattle.live_ticks.proofs.TicksLaws.{having, tallied-none, tallied-next, tallied-fits}
 use Rattle.live_ticks.proofs.by_value.ticks.Statement.{statement}
 use Rattle.live_ticks.proofs.by_value.ticks.Tie as tie
 

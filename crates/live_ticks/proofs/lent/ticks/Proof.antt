@@ -56,13 +56,13 @@ use Rattle.dispatcher.proofs.TickAnswer.Laws as R′
 use Rattle.live_loop.specs.Lent.{leaving}
 use Rattle.live_loop.proofs.Lending.{val, vals, laid, taken-up}
 use Rattle.live_loop.proofs.tick as lent
-use Rattle.walks.specs.Steps.{ensured-tells, says-both}
-use Rattle.walks.specs.Locals.{Blocks, placed, local-at, room, cell, frees-each, alloc-all, free-all, held}
-use Rattle.walks.specs.Turns.{Begun, Fewer, fewer-ends, next, next-fewer, fits-still, all-taken}
+use Rattle.walks.proofs.Steps.{ensured-tells, says-both}
+use Rattle.walks.proofs.Locals.{Blocks, placed, local-at, room, cell, frees-each, alloc-all, free-all, held}
+use Rattle.walks.proofs.Turns.{Begun, Fewer, fewer-ends, next, next-fewer, fits-still, all-taken}
 use Rattle.live_ticks.specs.declared.tally.Tallied.{Tallied}
 use Rattle.live_ticks.specs.declared.tally.Tally.{Tally}
-use Rattle.live_ticks.specs.Ticks.{nothing as none, counted, UpTo, tallied}
-use Rattle.live_ticks.specs.TicksLaws.{tallied-none, tallied-next, tallied-within, tallied-up, tallied-fits}
+use Rattle.live_ticks.specs.working.Ticks.{nothing as none, counted, UpTo, tallied}
+use Rattle.live_ticks.proofs.TicksLaws.{tallied-none, tallied-next, tallied-within, tallied-up, tallied-fits}
 use Rattle.live_ticks.proofs.tally.Tally as T
 use Rattle.live_ticks.proofs.tally.Tally.Laws as T′
 use Rattle.live_ticks.proofs.tally.Tallied as S

@@ -5,11 +5,11 @@ use mathlib.Core.List.{[], _∷_}
 use mathlib.Core.Path.{refl, sym, _∙_, ap}
 use Rattle.clock.specs.declared.Length.{Length}
 use Rattle.finish.specs.Finish.{Finish}
-use Rattle.finish.specs.ListLaws.{finish-of-open, finish-of-at}
+use Rattle.finish.proofs.ListLaws.{finish-of-open, finish-of-at}
 use Rattle.report.specs.DayReport.{finishFields}
 use Rattle.text.specs.Line.{number, goesOn}
 use Rattle.text.specs.Page.{Page}
-use Rattle.text.specs.PageLaws.{added-as, added-then, added-two-then, added-length}
+use Rattle.text.proofs.PageLaws.{added-as, added-then, added-two-then, added-length}
 use Rattle.report.proofs.lines.job.Statement.{statement}
 use Rattle.report.proofs.lines.job.Tie as tie
 

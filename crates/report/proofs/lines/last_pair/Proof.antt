@@ -2,7 +2,7 @@
 use lib.ListN.{length}
 use mathlib.Core.Path.{_∙_, ap}
 use Rattle.text.specs.Page.{Page}
-use Rattle.text.specs.PageLaws.{added-two-then, added-length}
+use Rattle.text.proofs.PageLaws.{added-two-then, added-length}
 use Rattle.report.proofs.lines.last_pair.Statement.{statement}
 use Rattle.report.proofs.lines.last_pair.Tie as tie
 

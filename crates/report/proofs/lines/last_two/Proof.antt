@@ -5,7 +5,7 @@ use mathlib.Core.List.{List, [], _++_, append-assoc}
 use mathlib.Core.Path.{_≡_, _∙_, ap}
 use Rattle.text.specs.Line.{decimal, goesOn}
 use Rattle.text.specs.Page.{Page}
-use Rattle.text.specs.PageLaws.{added-as, added-two-then, added-length}
+use Rattle.text.proofs.PageLaws.{added-as, added-two-then, added-length}
 use Rattle.report.proofs.lines.last_two.Statement.{statement}
 use Rattle.report.proofs.lines.last_two.Tie as tie
 

@@ -3,7 +3,7 @@ use lib.ListN.{length}
 use mathlib.Core.Path.{refl, ap₂, _∙_, ap}
 use Rattle.report.specs.DayReport.{refusedLine}
 use Rattle.text.specs.Page.{Page}
-use Rattle.text.specs.PageLaws.{added-as, added-length}
+use Rattle.text.proofs.PageLaws.{added-as, added-length}
 use Rattle.report.proofs.lines.refused.Statement.{statement}
 use Rattle.report.proofs.lines.refused.Tie as tie
 

@@ -6,7 +6,7 @@ use Rattle.report.specs.DayReport.{totalField, longestField}
 use Rattle.summary.specs.declared.Response.{Response}
 use Rattle.text.specs.Line.{bytes, bytesOf}
 use Rattle.text.specs.Page.{Page, added}
-use Rattle.text.specs.PageLaws.{added-both}
+use Rattle.text.proofs.PageLaws.{added-both}
 use Rattle.report.proofs.lines.responses.Statement.{statement}
 use Rattle.report.proofs.lines.responses.Tie as tie
 

@@ -3,7 +3,7 @@ use lib.ListN.{length}
 use mathlib.Core.Path.{refl, _∙_, ap}
 use Rattle.report.specs.DayReport.{serverLine}
 use Rattle.text.specs.Page.{Page}
-use Rattle.text.specs.PageLaws.{added-then, added-two-then, added-length}
+use Rattle.text.proofs.PageLaws.{added-then, added-two-then, added-length}
 use Rattle.report.proofs.lines.server.Statement.{statement}
 use Rattle.report.proofs.lines.server.Tie as tie
 

@@ -1,6 +1,6 @@
 -- `run::budgets::budgets_on` meets its promise: within its ranges no number is too large, and the deadline is shown as it is.
 use borrow.Author.Needs.{needs}
-use Rattle.books.specs.BudgetLaws.{periods-few, budgets-as}
+use Rattle.books.proofs.budgets.BudgetLaws.{periods-few, budgets-as}
 use Rattle.run.proofs.budgets.budgets_on.Statement.{statement}
 use Rattle.run.proofs.budgets.budgets_on.Tie as tie
 

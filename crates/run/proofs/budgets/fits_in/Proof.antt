@@ -1,6 +1,6 @@
 -- `run::budgets::fits_in` meets its promise: a quotient times the divisor is no more than what was divided.
 use borrow.Author.Needs.{needs}
-use Rattle.books.specs.BudgetLaws.{fits-in}
+use Rattle.books.proofs.budgets.BudgetLaws.{fits-in}
 use Rattle.run.proofs.budgets.fits_in.Statement.{statement}
 use Rattle.run.proofs.budgets.fits_in.Tie as tie
 

@@ -1,7 +1,7 @@
 -- `run::budgets::further` meets its promise: it takes the lesser of how many budgets fit and how many win.
 use borrow.Author.Needs.{needs}
 use native.Mathlib.Omega.{arith}
-use Rattle.books.specs.BudgetLaws.{further-none, further-some}
+use Rattle.books.proofs.budgets.BudgetLaws.{further-none, further-some}
 use Rattle.run.proofs.budgets.further.Statement.{statement}
 use Rattle.run.proofs.budgets.further.Tie as tie
 

@@ -3,7 +3,7 @@ use Prim.Native.Nat.{ℕ, _+_, _*_}
 use borrow.Author.Needs.{needs}
 use mathlib.Core.Path.{ap, ap₂}
 use native.Mathlib.Omega.{arith}
-use Rattle.books.specs.Budgets.{budgetsOn}
+use Rattle.books.proofs.budgets.Budgets.{budgetsOn}
 use Rattle.clock.specs.Clock.{moment}
 use Rattle.clock.specs.declared.Moment.{Moment}
 use Rattle.server.specs.declared.Server.{Server}

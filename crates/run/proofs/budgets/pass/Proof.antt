@@ -6,10 +6,10 @@ use mathlib.Core.List.{List}
 use mathlib.Core.Path.{_≡_, sym, _∙_, ap, ap₂}
 use native.Mathlib.Nat.{le-mul-of-pos-right, mul-le-mul-right}
 use native.Mathlib.Omega.{arith}
-use Rattle.books.specs.BudgetLaws.{on-count, on-above}
-use Rattle.books.specs.Budgets.{currentOn, traceOn, interruptedOn}
+use Rattle.books.proofs.budgets.BudgetLaws.{on-count, on-above}
+use Rattle.books.proofs.budgets.Budgets.{currentOn, traceOn, interruptedOn}
 use Rattle.books.specs.declared.Current.{Current}
-use Rattle.books.specs.Skips.{lastOf, counted-least, cut-length, skipped-current, skipped-list, skipped-cut}
+use Rattle.books.proofs.budgets.Skipped.{lastOf, counted-least, cut-length, skipped-current, skipped-list, skipped-cut}
 use Rattle.sizes.specs.Sizes.{clockEnd}
 use Rattle.run.proofs.budgets.pass.Statement.{statement}
 use Rattle.run.proofs.budgets.pass.Tie as tie

@@ -8,10 +8,10 @@ use native.Mathlib.Nat.{le-mul-of-pos-right, mul-le-mul-right, le-antisymm}
 use native.Mathlib.Numerals.{add-one}
 use native.Mathlib.Omega.{arith}
 use Rattle.books.specs.declared.Current.{Current}
-use Rattle.books.specs.BudgetLaws.{deadline-more, on-begun, on-count, on-above}
-use Rattle.books.specs.Budgets.{budgetsOn, currentOn, traceOn, interruptedOn, Able, NoneAbove}
-use Rattle.books.specs.Segmented.{withWaits}
-use Rattle.books.specs.Turns.{currentThen, traceThen, interruptedThen}
+use Rattle.books.proofs.budgets.BudgetLaws.{deadline-more, on-begun, on-count, on-above}
+use Rattle.books.proofs.budgets.Budgets.{budgetsOn, currentOn, traceOn, interruptedOn, Able, NoneAbove}
+use Rattle.books.proofs.stretches.Segmented.{withWaits}
+use Rattle.books.proofs.stretches.Turns.{currentThen, traceThen, interruptedThen}
 use Rattle.clock.specs.Clock.{lastTick, moment, later, shown}
 use Rattle.clock.specs.declared.Moment.{Moment}
 use Rattle.server.specs.declared.Server.{Server}

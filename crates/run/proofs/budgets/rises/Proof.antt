@@ -1,6 +1,6 @@
 -- `run::budgets::rises` meets its promise: a quotient times the divisor is no more than what was divided.
 use borrow.Author.Needs.{needs}
-use Rattle.books.specs.BudgetLaws.{rises-below, rises-few}
+use Rattle.books.proofs.budgets.BudgetLaws.{rises-below, rises-few}
 use Rattle.run.proofs.budgets.rises.Statement.{statement}
 use Rattle.run.proofs.budgets.rises.Tie as tie
 

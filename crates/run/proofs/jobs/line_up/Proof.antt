@@ -6,8 +6,8 @@ use mathlib.Core.List.{List}
 use mathlib.Core.Path.{_≡_, sym, ap, subst, subst⁻¹, subst₂}
 use native.Mathlib.Omega.{arith}
 use Rattle.arrival.specs.declared.Arrival.{Arrival}
-use Rattle.books.specs.Accepted.{arrivals-read}
-use Rattle.books.specs.Lined.{Lined, lined-none, lined-more}
+use Rattle.books.proofs.Accepted.{arrivals-read}
+use Rattle.books.proofs.jobs.Lined.{Lined, lined-none, lined-more}
 use Rattle.sizes.specs.Sizes.{mostArrivals, mostServers}
 use Rattle.workfile.specs.Work.{work}
 use Rattle.run.proofs.jobs.line_up.Statement.{statement}

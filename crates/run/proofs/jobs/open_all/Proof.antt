@@ -7,7 +7,7 @@ use mathlib.Core.Path.{_≡_, sym, _∙_, ap}
 use mathlib.Core.List.{List}
 use native.Mathlib.Numerals.{add-one}
 use native.Mathlib.Omega.{arith}
-use Rattle.books.specs.Ends.{finishes-none, finishes-open, finishes-length}
+use Rattle.books.proofs.jobs.FinishList.{finishes-none, finishes-open, finishes-length}
 use Rattle.finish.specs.Finish.{finishList, isOpen}
 use Rattle.sizes.specs.Sizes.{openJob}
 use Rattle.run.proofs.jobs.open_all.Statement.{statement}

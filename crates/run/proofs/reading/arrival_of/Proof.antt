@@ -1,7 +1,7 @@
 -- `run::reading::arrival_of` meets its promise: arrival k is the record that lies k records behind the start of its block.
 use borrow.Author.Needs.{needs}
 use mathlib.Core.Path.{_∙_}
-use Rattle.books.specs.Accepted.{arrival-read}
+use Rattle.books.proofs.Accepted.{arrival-read}
 use Rattle.run.proofs.reading.arrival_of.Statement.{statement}
 use Rattle.run.proofs.reading.arrival_of.Tie as tie
 

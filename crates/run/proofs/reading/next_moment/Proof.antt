@@ -3,7 +3,7 @@ use borrow.Author.Needs.{needs}
 use mathlib.Core.Path.{sym, _∙_, ap}
 use native.Mathlib.Omega.{arith}
 use Rattle.arrival.specs.declared.Arrival.{Arrival}
-use Rattle.books.specs.Accepted.{arrivals-read, horizon-read, next-arrival, next-horizon}
+use Rattle.books.proofs.Accepted.{arrivals-read, horizon-read, next-arrival, next-horizon}
 use Rattle.workfile.specs.Work.{work}
 use Rattle.run.proofs.reading.next_moment.Statement.{statement}
 use Rattle.run.proofs.reading.next_moment.Tie as tie

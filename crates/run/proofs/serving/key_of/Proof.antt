@@ -2,7 +2,7 @@
 use borrow.Author.Needs.{needs}
 use borrow.Author.Tests.{eq-eqb, ne-eqb}
 use mathlib.Core.Path.{sym}
-use Rattle.books.specs.Keys.{key-idle, key-works}
+use Rattle.books.proofs.tree.Keys.{key-idle, key-works}
 use Rattle.run.proofs.serving.key_of.Statement.{statement}
 use Rattle.run.proofs.serving.key_of.Tie as tie
 

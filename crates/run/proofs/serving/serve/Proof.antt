@@ -1,8 +1,9 @@
 -- `run::serving::serve` meets its promise: the budget is spent or not, and the postponed deadline can be shown.
 use borrow.Author.Needs.{needs}
 use native.Mathlib.Omega.{arith}
-use Rattle.clock.specs.Clock.{later, shown-whole}
-use Rattle.moments.specs.OneGoLaws.{served-less, served-spent}
+use Rattle.clock.specs.Clock.{later}
+use Rattle.clock.proofs.ClockLaws.{shown-whole}
+use Rattle.moments.proofs.OneGoLaws.{served-less, served-spent}
 use Rattle.run.proofs.serving.serve.Statement.{statement}
 use Rattle.run.proofs.serving.serve.Tie as tie
 

@@ -1,7 +1,7 @@
 -- `run::spell::go` meets its promise: the spell is within the time that is left, and the tree is set as planned.
 use borrow.Author.Needs.{needs}
 use native.Mathlib.Omega.{arith}
-use Rattle.books.specs.PlannedLaws.{planned-few}
+use Rattle.books.proofs.spell.PlannedLaws.{planned-few}
 use Rattle.run.proofs.spell.go.Statement.{statement}
 use Rattle.run.proofs.spell.go.Tie as tie
 

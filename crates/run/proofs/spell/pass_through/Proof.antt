@@ -5,10 +5,10 @@ use lib.ListN.{length, getD}
 use mathlib.Core.List.{List}
 use mathlib.Core.Path.{_∙_, ap, ap₂}
 use native.Mathlib.Omega.{arith}
-use Rattle.books.specs.BudgetLaws.{then-start, then-count, then-above}
-use Rattle.books.specs.Budgets.{currentOn, traceOn, interruptedOn}
-use Rattle.books.specs.Segmented.{withWaits}
-use Rattle.books.specs.Skips.{then-length}
+use Rattle.books.proofs.budgets.BudgetLaws.{then-start, then-count, then-above}
+use Rattle.books.proofs.budgets.Budgets.{currentOn, traceOn, interruptedOn}
+use Rattle.books.proofs.stretches.Segmented.{withWaits}
+use Rattle.books.proofs.budgets.Skipped.{then-length}
 use Rattle.books.specs.declared.Current.{Current}
 use Rattle.run.proofs.spell.pass_through.Statement.{statement}
 use Rattle.run.proofs.spell.pass_through.Tie as tie

@@ -2,7 +2,7 @@
 use Prim.Native.Nat.{_+_, _*_, _≤_}
 use borrow.Author.Needs.{needs}
 use mathlib.Core.Path.{subst⁻¹}
-use Rattle.books.specs.PlannedLaws.{after-able, further-works, further-few, last-key, gone-few, planned, spent-once}
+use Rattle.books.proofs.spell.PlannedLaws.{after-able, further-works, further-few, last-key, gone-few, planned, spent-once}
 use Rattle.clock.specs.Clock.{lastTick}
 use Rattle.server.specs.declared.Server.{Server}
 use Rattle.run.proofs.spell.plan.Statement.{statement}

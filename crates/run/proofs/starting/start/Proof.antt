@@ -4,10 +4,10 @@ use borrow.Author.Needs.{needs}
 use mathlib.Core.Path.{_≡_}
 use native.Mathlib.Numerals.{add-one}
 use native.Mathlib.Omega.{arith}
-use Rattle.books.specs.Accepted.{frame-read, servers-read, booking-read}
+use Rattle.books.proofs.Accepted.{frame-read, servers-read, booking-read}
 use Rattle.counting.specs.Places.{places}
 use Rattle.dispatcher.specs.Start.{startAt, atStart}
-use Rattle.dispatcher.specs.StartLaws.{firstOf, start-none, start-more}
+use Rattle.dispatcher.proofs.StartLaws.{firstOf, start-none, start-more}
 use Rattle.moments.specs.Moments.{atMoment}
 use Rattle.sizes.specs.Sizes.{mostServers}
 use Rattle.workfile.specs.Work.{work}

@@ -1,7 +1,7 @@
 -- `run::stretches::end_segment` meets its promise: its test is whether the stretch is one of a server.
 use borrow.Author.Needs.{needs}
 use mathlib.Core.Path.{sym, _∙_}
-use Rattle.books.specs.Stretches.{trace-after, count-after, trace-nobody, count-nobody}
+use Rattle.books.proofs.stretches.Stretches.{trace-after, count-after, trace-nobody, count-nobody}
 use Rattle.run.proofs.stretches.end_segment.Statement.{statement}
 use Rattle.run.proofs.stretches.end_segment.Tie as tie
 

@@ -1,6 +1,6 @@
 -- `run::stretches::goes_on` meets its promise: under the same server the deadline tells.
 use mathlib.Core.Path.{sym}
-use Rattle.books.specs.Turns.{stays-server, stays-other}
+use Rattle.books.proofs.stretches.Turns.{stays-server, stays-other}
 use Rattle.run.proofs.stretches.goes_on.Statement.{statement}
 use Rattle.run.proofs.stretches.goes_on.Tie as tie
 

@@ -1,7 +1,7 @@
 -- `run::stretches::interrupt` meets its promise: its tests are whether the stretch is one of a server, and whether work of it waits.
 use borrow.Author.Needs.{needs}
 use mathlib.Core.Path.{sym}
-use Rattle.books.specs.Stretches.{interrupted-after, interrupted-nobody, interrupted-done}
+use Rattle.books.proofs.stretches.Stretches.{interrupted-after, interrupted-nobody, interrupted-done}
 use Rattle.run.proofs.stretches.interrupt.Statement.{statement}
 use Rattle.run.proofs.stretches.interrupt.Tie as tie
 

@@ -1,7 +1,7 @@
 -- `run::stretches::turn_to` meets its promise: where the stretch goes on nothing changes, and else what ends with it is done.
 use borrow.Author.Needs.{needs}
 use mathlib.Core.Path.{sym, _∙_}
-use Rattle.books.specs.Turns.{current-stays, trace-stays, interrupted-stays, current-turns, trace-turns, interrupted-turns}
+use Rattle.books.proofs.stretches.Turns.{current-stays, trace-stays, interrupted-stays, current-turns, trace-turns, interrupted-turns}
 use Rattle.run.proofs.stretches.turn_to.Statement.{statement}
 use Rattle.run.proofs.stretches.turn_to.Tie as tie
 

@@ -3,8 +3,8 @@ use borrow.Author.Needs.{needs}
 use mathlib.Core.Path.{_≡_, _∙_}
 use native.Mathlib.Omega.{arith}
 use Rattle.server.specs.Moves.{arrived}
-use Rattle.server.specs.RangeLaws.{arrived-ranged, deadline-below}
-use Rattle.steps.specs.StepLaws.{arrival-ranged}
+use Rattle.server.proofs.RangeLaws.{arrived-ranged, deadline-below}
+use Rattle.steps.proofs.StepLaws.{arrival-ranged}
 use Rattle.run.proofs.taking.take.Statement.{statement}
 use Rattle.run.proofs.taking.take.Tie as tie
 

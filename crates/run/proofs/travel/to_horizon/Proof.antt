@@ -6,31 +6,31 @@ use mathlib.Core.List.{List}
 use mathlib.Core.Path.{_≡_, refl, _∙_, ap, subst, subst⁻¹}
 use native.Mathlib.Numerals.{add-one}
 use native.Mathlib.Omega.{arith}
-use Rattle.books.specs.Accepted.{Accepted, fit-beside}
-use Rattle.books.specs.Ends.{finishes-length}
-use Rattle.books.specs.Goes.{Jobs}
-use Rattle.books.specs.Idles.{idled-on}
-use Rattle.books.specs.Jobs.{NextJob, job-waiting}
-use Rattle.books.specs.Lined.{Lined}
-use Rattle.books.specs.Opens.{opened-jobs, served-premise}
-use Rattle.books.specs.Picked.{before-end, started, counted, cut-few, postponed-few, finishes-long, picked-server, picked-ranged, picked-waits, picked-charged}
-use Rattle.books.specs.PlannedLaws.{ranged-able, ranged-early}
-use Rattle.books.specs.Spells.{spell-went}
-use Rattle.books.specs.Stands.{stands-clock}
-use Rattle.books.specs.Took.{Takes, takes, Taking, due-here, due-now, taking-more}
-use Rattle.books.specs.Travels.{Travels, travels-start, travels-taking, next-horizon-le}
-use Rattle.books.specs.Went.{Went}
-use Rattle.books.specs.Whole.{list-whole, count-whole, finishes-whole, postponed-is, interrupted-is}
+use Rattle.books.proofs.Accepted.{Accepted, fit-beside}
+use Rattle.books.proofs.jobs.FinishList.{finishes-length}
+use Rattle.books.proofs.travel.EventBooks.{Jobs}
+use Rattle.books.proofs.travel.IdleTime.{idled-on}
+use Rattle.books.proofs.jobs.Jobs.{NextJob, job-waiting}
+use Rattle.books.proofs.jobs.Lined.{Lined}
+use Rattle.books.proofs.jobs.OpenedLaws.{opened-jobs, served-premise}
+use Rattle.books.proofs.travel.BetweenEvents.{before-end, started, counted, cut-few, postponed-few, finishes-long, picked-server, picked-ranged, picked-waits, picked-charged}
+use Rattle.books.proofs.spell.PlannedLaws.{ranged-able, ranged-early}
+use Rattle.books.proofs.spell.SpellKeeps.{spell-went}
+use Rattle.books.proofs.travel.Stands.{stands-clock}
+use Rattle.books.proofs.travel.ArrivalTaken.{Takes, takes, Taking, due-here, due-now, taking-more}
+use Rattle.books.proofs.travel.Travels.{Travels, travels-start, travels-taking, next-horizon-le}
+use Rattle.books.proofs.spell.SpellLeaves.{Went}
+use Rattle.books.proofs.travel.WholeRun.{list-whole, count-whole, finishes-whole, postponed-is, interrupted-is}
 use Rattle.clock.specs.declared.Moment.{Moment}
 use Rattle.dispatcher.specs.Pick.{serverAt}
 use Rattle.finish.specs.Finish.{finishList}
-use Rattle.judgement.specs.FitLaws.{Fit}
+use Rattle.judgement.proofs.FitLaws.{Fit}
 use Rattle.moments.specs.Moments.{history}
 use Rattle.sizes.specs.Sizes.{clockEnd}
 use Rattle.summary.specs.Summary.{finishes}
 use Rattle.trace.specs.Trace.{trace}
 use Rattle.trace.specs.Written.{written}
-use Rattle.trace.specs.WrittenLaws.{written-length}
+use Rattle.trace.proofs.WrittenLaws.{written-length}
 use Rattle.workfile.specs.Work.{Work, work}
 use Rattle.run.proofs.travel.to_horizon.Statement.{statement}
 use Rattle.run.proofs.travel.to_horizon.Tie as tie

@@ -5,8 +5,8 @@ use lib.ListN.{length, replicate, length-replicate}
 use mathlib.Core.List.{List}
 use mathlib.Core.Path.{_≡_, sym, _∙_, ap}
 use native.Mathlib.Omega.{arith}
-use Rattle.books.specs.Accepted.{arrivals-read, horizon-read}
-use Rattle.books.specs.Ends.{finishes-again, finishes-length}
+use Rattle.books.proofs.Accepted.{arrivals-read, horizon-read}
+use Rattle.books.proofs.jobs.FinishList.{finishes-again, finishes-length}
 use Rattle.finish.specs.Finish.{isOpen, finishList}
 use Rattle.sizes.specs.Sizes.{mostArrivals, mostServers}
 use Rattle.summary.specs.Summary.{finishes}

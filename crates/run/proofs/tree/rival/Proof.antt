@@ -9,7 +9,7 @@ use mathlib.Core.Logic.{_≢_}
 use mathlib.Core.Path.{_≡_, sym, _∙_, ap}
 use native.Mathlib.Decide.{ℕ-discrete}
 use native.Mathlib.Omega.{arith}
-use Rattle.books.specs.Winners.{keyAt, Winners, Beside, Set, Rival, root-least, root-some}
+use Rattle.books.proofs.tree.Winners.{keyAt, Winners, Beside, Set, Rival, root-least, root-some}
 use Rattle.run.proofs.Climb.{Climb, climb-starts, climb-goes-on, climb-ends, set-from}
 use Rattle.run.proofs.tree.rival.Statement.{statement}
 use Rattle.run.proofs.tree.rival.Tie as tie

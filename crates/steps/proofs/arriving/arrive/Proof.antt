@@ -3,8 +3,8 @@
 use borrow.Author.Needs.{needs}
 use mathlib.Core.Path.{sym, _∙_, ap}
 use native.Mathlib.Omega.{arith}
-use Rattle.clock.specs.Clock.{shown-whole}
-use Rattle.server.specs.MoveLaws.{arrived-busy, arrived-renewed, arrived-kept}
+use Rattle.clock.proofs.ClockLaws.{shown-whole}
+use Rattle.server.proofs.MoveLaws.{arrived-busy, arrived-renewed, arrived-kept}
 use Rattle.server.specs.Moves.{withWork, refilled}
 use Rattle.steps.proofs.arriving.arrive.Statement.{statement}
 use Rattle.steps.proofs.arriving.arrive.Tie as tie

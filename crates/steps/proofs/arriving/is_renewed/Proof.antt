@@ -3,8 +3,8 @@
 use borrow.Author.Needs.{needs}
 use mathlib.Core.Path.{sym}
 use native.Mathlib.Omega.{arith}
-use Rattle.server.specs.MoveLaws.{renews-passed, renews-is}
-use Rattle.steps.specs.StepLaws.{ahead-fits, remaining-fits}
+use Rattle.server.proofs.MoveLaws.{renews-passed, renews-is}
+use Rattle.steps.proofs.StepLaws.{ahead-fits, remaining-fits}
 use Rattle.steps.proofs.arriving.is_renewed.Statement.{statement}
 use Rattle.steps.proofs.arriving.is_renewed.Tie as tie
 

@@ -1,0 +1,78 @@
+-- What the functions of a run may rely on: the file was accepted.
+use Prim.Native.Nat.{ℕ, _+_, _*_, _≤_, _<_}
+use borrow.Author.Tests.{lt-ltb, le-ltb}
+use lib.Dec.{ltb}
+use mathlib.Core.Bool.{cond}
+use mathlib.Core.List.{List}
+use mathlib.Core.Path.{_≡_, ap}
+use native.Mathlib.Omega.{arith}
+use Rattle.judgement.proofs.FitLaws.{Fit, judged-fit}
+use Rattle.judgement.specs.Judgement.{judged}
+use Rattle.refusal.specs.Refusals.{accepted}
+use Rattle.sizes.specs.Sizes.{arrivalBytes, serverBytes}
+use Rattle.workfile.specs.Layout.{arrivalAt, bookingAt, header}
+use Rattle.workfile.specs.Work.{Work, work}
+use Rattle.workfile.specs.declared.Header.{Header}
+
+pub record Accepted (file : List ℕ) : Type 0 where
+  pub fit : Fit (work file) (work file .arrivals)
+
+-- a work that fits beside one finish list fits beside any that is long enough
+pub fit-beside : {w : Work} {places : ℕ} (others : ℕ) → Fit w places → w .arrivals ≤ others → Fit w others
+fit-beside others fit long =
+    record {
+      frame-from = fit .frame-from;
+      frame-to = fit .frame-to;
+      horizon = fit .horizon;
+      servers = fit .servers;
+      arrivals = fit .arrivals;
+      admitted = fit .admitted;
+      sound = fit .sound;
+      in-order = fit .in-order;
+      in-time = fit .in-time;
+      finishes = long;
+    }
+
+pub judged-accepted : (file : List ℕ) (places : ℕ) → judged file places ≡ accepted → Accepted file
+judged-accepted file places e =
+    record {
+      fit = fit-beside (work file .arrivals) (judged-fit file places e) (omega arith);
+    }
+
+-- What the header of a file tells of its work, as it was read.
+module _ (file : List ℕ) {h : Header} (read : h ≡ header file) where
+  pub arrivals-read : h .arrivals .count ≡ work file .arrivals
+  unfolding work
+  arrivals-read = ap (λ (x : Header). x .arrivals .count) read
+
+  pub horizon-read : h .horizon .tick ≡ work file .horizon .tick
+  unfolding work
+  horizon-read = ap (λ (x : Header). x .horizon .tick) read
+
+  pub frame-read : h .frame ≡ work file .frame
+  unfolding work
+  frame-read = ap (λ (x : Header). x .frame) read
+
+  pub servers-read : h .servers .count ≡ work file .table .count
+  unfolding work
+  servers-read = ap (λ (x : Header). x .servers .count) read
+
+  pub booking-read : (k : ℕ) → bookingAt file (h .servers .offset + serverBytes * k) ≡ work file .table .booking k
+  unfolding work
+  booking-read k = ap (λ (x : Header). bookingAt file (x .servers .offset + serverBytes * k)) read
+
+  pub arrival-read : (k : ℕ) → arrivalAt file (h .arrivals .offset + arrivalBytes * k) ≡ work file .arrival k
+  unfolding work
+  arrival-read k = ap (λ (x : Header). arrivalAt file (x .arrivals .offset + arrivalBytes * k)) read
+
+-- the moment of arrival j, or the horizon behind the last
+unfoldable pub nextMoment : Work → ℕ → ℕ
+nextMoment w j = cond (ltb j (w .arrivals)) (w .arrival j .moment .tick) (w .horizon .tick)
+
+pub next-arrival : (w : Work) (j : ℕ) → j < w .arrivals → nextMoment w j ≡ w .arrival j .moment .tick
+unfolding nextMoment
+next-arrival w j l = rw (lt-ltb j (w .arrivals) l)
+
+pub next-horizon : (w : Work) (j : ℕ) → w .arrivals ≤ j → nextMoment w j ≡ w .horizon .tick
+unfolding nextMoment
+next-horizon w j l = rw (le-ltb j (w .arrivals) l)

@@ -1,0 +1,7 @@
+pub mod Accepted
+pub mod budgets
+pub mod jobs
+pub mod spell
+pub mod stretches
+pub mod travel
+pub mod tree

@@ -1,0 +1,4 @@
+pub mod BudgetBooks
+pub mod BudgetLaws
+pub mod Budgets
+pub mod Skipped

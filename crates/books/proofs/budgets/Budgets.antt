@@ -1,0 +1,207 @@
+-- Whole budgets in one go: a server that has just been postponed and still wins goes on with the next budget.
+use Prim.Native.Nat.{ℕ, zero, suc, _+_, _-_, _*_, _≤_, _<_}
+use borrow.Author.Tests.{ne-eqb}
+use lib.ListN.{length, getD, set}
+use mathlib.Core.Bool.{false}
+use lib.Seq.{getD-set-same, getD-set-other, set-getD, set-set}
+use mathlib.Core.List.{List}
+use mathlib.Core.Path.{_≡_, refl, sym, _∙_, ap, ap₂, subst, subst⁻¹}
+use native.Mathlib.Decide.{ℕ-discrete}
+use native.Mathlib.Omega.{arith}
+use Rattle.clock.specs.Clock.{later, moment, ticks}
+use Rattle.dispatcher.specs.Pick.{serverAt, Earliest}
+use Rattle.dispatcher.specs.declared.Dispatcher.{Dispatcher}
+use Rattle.moments.proofs.OneGo.{servedFor, ranFor}
+use Rattle.moments.proofs.OneGoLaws.{served-spent}
+use Rattle.server.specs.Server.{blank, idle}
+use Rattle.server.specs.declared.Server.{Server}
+use Rattle.sizes.specs.Sizes.{clockEnd, mostFrame}
+use Rattle.books.specs.declared.Current.{Current}
+use Rattle.books.proofs.tree.Keys.{keyOf, key-works}
+use Rattle.books.proofs.stretches.Segmented.{withWaits}
+use Rattle.books.proofs.stretches.Turns.{traceThen, interruptedThen, currentThen}
+use Rattle.books.proofs.tree.Winners.{keyAt}
+
+-- a server with a full budget, n budgets later
+unfoldable pub budgetsOn : Server → ℕ → Server
+budgetsOn s n =
+    record {
+      budget = s .budget;
+      period = s .period;
+      remaining = s .remaining;
+      deadline = moment (s .deadline .tick + n * s .period .ticks);
+      waiting = ticks (s .waiting .ticks - n * s .budget .ticks);
+    }
+
+-- the dispatcher then
+unfoldable pub ranBudgets : Dispatcher → ℕ → ℕ → Dispatcher
+ranBudgets d i n =
+    record {
+      frame = d .frame;
+      count = d .count;
+      clock = later (d .clock) (ticks (n * serverAt d i .budget .ticks));
+      servers = set (d .servers) i (budgetsOn (serverAt d i) n);
+    }
+
+-- and the stretch that a run is in, the lent list and the interruptions: each budget is a stretch of its own
+unfoldable pub currentOn : Current → ℕ → ℕ → Server → ℕ → Current
+currentOn c t i s zero = c
+currentOn c t i s (suc n) =
+    withWaits (currentThen (currentOn c t i s n) (t + n * s .budget .ticks) i (budgetsOn s n .deadline)) (budgetsOn s (suc n) .waiting .ticks)
+
+unfoldable pub traceOn : Current → ℕ → ℕ → Server → ℕ → List ℕ → List ℕ
+traceOn c t i s zero list = list
+traceOn c t i s (suc n) list =
+    traceThen (currentOn c t i s n) (t + n * s .budget .ticks) i (budgetsOn s n .deadline) (traceOn c t i s n list)
+
+unfoldable pub interruptedOn : Current → ℕ → ℕ → Server → ℕ → List ℕ → List ℕ
+interruptedOn c t i s zero list = list
+interruptedOn c t i s (suc n) list =
+    interruptedThen (currentOn c t i s n) i (budgetsOn s n .deadline) (interruptedOn c t i s n list)
+
+-- what a server within its ranges has, so that no number here is too large
+pub record Able (s : Server) : Type 0 where
+  pub budget : 1 ≤ s .budget .ticks
+  pub fits : s .budget .ticks ≤ s .period .ticks
+  pub period : s .period .ticks ≤ mostFrame
+  pub remaining : s .remaining .ticks ≤ s .budget .ticks
+  pub deadline : s .deadline .tick ≤ mostFrame * (clockEnd + 1)
+
+-- no number of a list is above a bound
+abbrev pub NoneAbove : ℕ → List ℕ → Type 0
+NoneAbove most list = (j : ℕ) → getD list j 0 ≤ most
+
+-- How many budgets b a server may go on for, with so much to spare of its work and of the time: none of the others wins before.
+pub record Further (keys : List ℕ) (i : ℕ) (s : Server) (spare b : ℕ) : Type 0 where
+  pub full : 0 < b → s .remaining .ticks ≡ s .budget .ticks
+  pub fits : 0 < b → b * s .budget .ticks < spare
+  pub wins : (n j : ℕ) → n < b → j < 64 → (j ≡ i → ⊥) → (s .deadline .tick + n * s .period .ticks) * 64 + i < keyAt keys j
+
+-- One budget more.
+budgets-none : (s : Server) → budgetsOn s 0 ≡ s
+unfolding budgetsOn
+budgets-none s =
+    ap₂
+    (λ (d w : ℕ). record {
+      budget = s .budget;
+      period = s .period;
+      remaining = s .remaining;
+      deadline = moment d;
+      waiting = ticks w;
+    })
+    at-none
+    left-none
+  where
+    at-none : s .deadline .tick + 0 * s .period .ticks ≡ s .deadline .tick
+    at-none = omega arith
+
+    left-none : s .waiting .ticks - 0 * s .budget .ticks ≡ s .waiting .ticks
+    left-none = omega arith
+
+pub budgets-more : (s : Server) (n : ℕ) → s .remaining .ticks ≡ s .budget .ticks
+    → servedFor (budgetsOn s n) (s .budget .ticks) ≡ budgetsOn s (suc n)
+unfolding budgetsOn
+budgets-more s n full =
+    served-spent (budgetsOn s n) (s .budget .ticks) (omega arith)
+    ∙ ap₂
+    (λ (d w : ℕ). record { budget = s .budget; period = s .period; remaining = s .budget; deadline = moment d; waiting = ticks w })
+    at-more
+    left-more
+    ∙ ap
+    (λ (c : ℕ). record {
+      budget = s .budget;
+      period = s .period;
+      remaining = ticks c;
+      deadline = moment (s .deadline .tick + suc n * s .period .ticks);
+      waiting = ticks (s .waiting .ticks - suc n * s .budget .ticks);
+    })
+    (sym full)
+  where
+    at-more : s .deadline .tick + n * s .period .ticks + s .period .ticks ≡ s .deadline .tick + suc n * s .period .ticks
+    at-more = omega arith
+
+    left-more : s .waiting .ticks - n * s .budget .ticks - s .budget .ticks ≡ s .waiting .ticks - suc n * s .budget .ticks
+    left-more = omega arith
+
+budgets-deadline : (s : Server) (n : ℕ) → budgetsOn s n .deadline .tick ≡ s .deadline .tick + n * s .period .ticks
+unfolding budgetsOn
+budgets-deadline s n = refl
+
+still-works : (s : Server) (n : ℕ) → n * s .budget .ticks < s .waiting .ticks → idle (budgetsOn s n) ≡ false
+unfolding budgetsOn
+still-works s n less = ne-eqb (s .waiting .ticks - n * s .budget .ticks) 0 (omega arith)
+
+-- The dispatcher, one budget after the other.
+module _ (d : Dispatcher) (i : ℕ) (here : i < length (d .servers)) where
+  pub on-own : (n : ℕ) → serverAt (ranBudgets d i n) i ≡ budgetsOn (serverAt d i) n
+  unfolding ranBudgets
+  on-own n = getD-set-same (d .servers) i (budgetsOn (serverAt d i) n) blank here
+
+  pub on-other : (n j : ℕ) → (j ≡ i → ⊥) → serverAt (ranBudgets d i n) j ≡ serverAt d j
+  unfolding ranBudgets
+  on-other n j other = getD-set-other (d .servers) i j (budgetsOn (serverAt d i) n) blank other
+
+  pub on-none : ranBudgets d i 0 ≡ d
+  unfolding ranBudgets
+  on-none =
+      ap₂ (λ (t : ℕ) (l : List Server). record { frame = d .frame; count = d .count; clock = moment t; servers = l })
+      clock-none
+      (ap (set (d .servers) i) (budgets-none (serverAt d i)) ∙ set-getD (d .servers) i blank)
+    where
+      clock-none : d .clock .tick + 0 * serverAt d i .budget .ticks ≡ d .clock .tick
+      clock-none = omega arith
+
+  pub on-more : (n : ℕ) → serverAt d i .remaining .ticks ≡ serverAt d i .budget .ticks
+      → ranFor (ranBudgets d i n) i (serverAt d i .budget .ticks) ≡ ranBudgets d i (suc n)
+  unfolding ranBudgets
+  on-more n full =
+      ap₂ (λ (t : ℕ) (l : List Server). record { frame = d .frame; count = d .count; clock = moment t; servers = l })
+      clock-more
+      (set-set (d .servers) i (budgetsOn (serverAt d i) n) (servedFor (serverAt (ranBudgets d i n) i) (serverAt d i .budget .ticks))
+      ∙ ap (λ (s : Server). set (d .servers) i (servedFor s (serverAt d i .budget .ticks))) (on-own n)
+      ∙ ap (set (d .servers) i) (budgets-more (serverAt d i) n full))
+    where
+      clock-more : d .clock .tick + n * serverAt d i .budget .ticks + serverAt d i .budget .ticks
+          ≡ d .clock .tick + suc n * serverAt d i .budget .ticks
+      clock-more = omega arith
+
+-- it is still the one that the rules pick, while its key is less than every other
+pub wins-picked : (keys : List ℕ) (d : Dispatcher) (i : ℕ) (here : i < length (d .servers)) (among : i < d .count) → d .count ≤ 64
+    → ((j : ℕ) → j < 64 → (j ≡ i → ⊥) → keyAt keys j ≡ keyOf (serverAt d j) j) → (n : ℕ)
+    → n * serverAt d i .budget .ticks < serverAt d i .waiting .ticks
+    → ((j : ℕ) → j < 64 → (j ≡ i → ⊥) → (serverAt d i .deadline .tick + n * serverAt d i .period .ticks) * 64 + i < keyAt keys j)
+    → Earliest (ranBudgets d i n) (d .count) i
+wins-picked keys d i here among few keyed n works wins =
+    record {
+      among = among;
+      works = subst⁻¹ (λ (s : Server). idle s ≡ false) (on-own d i here n) (still-works (serverAt d i) n works);
+      least = λ j b v. least j b v (ℕ-discrete j i);
+      ties = λ j b v e. ties j b v e (ℕ-discrete j i);
+    }
+  where
+    own : serverAt (ranBudgets d i n) i .deadline .tick ≡ serverAt d i .deadline .tick + n * serverAt d i .period .ticks
+    own = ap (λ (s : Server). s .deadline .tick) (on-own d i here n) ∙ budgets-deadline (serverAt d i) n
+
+    before : (j : ℕ) → j < d .count → idle (serverAt (ranBudgets d i n) j) ≡ false → (j ≡ i → ⊥)
+        → serverAt (ranBudgets d i n) i .deadline .tick * 64 + i < serverAt (ranBudgets d i n) j .deadline .tick * 64 + j
+    before j b v other =
+        let same = on-other d i here n j other in
+        omega (
+          arith,
+          own,
+          wins j (omega arith) other,
+          keyed j (omega arith) other,
+          key-works (serverAt d j) j (subst (λ (s : Server). idle s ≡ false) same v),
+          ap (λ (s : Server). s .deadline .tick) same,
+        )
+
+    least : (j : ℕ) → j < d .count → idle (serverAt (ranBudgets d i n) j) ≡ false → Dec (j ≡ i)
+        → serverAt (ranBudgets d i n) i .deadline .tick ≤ serverAt (ranBudgets d i n) j .deadline .tick
+    least j b v (yes q) =
+        subst⁻¹ (λ (m : ℕ). serverAt (ranBudgets d i n) i .deadline .tick ≤ serverAt (ranBudgets d i n) m .deadline .tick) q (omega arith)
+    least j b v (no other) = omega (arith, before j b v other)
+
+    ties : (j : ℕ) → j < d .count → idle (serverAt (ranBudgets d i n) j) ≡ false
+        → serverAt (ranBudgets d i n) j .deadline .tick ≡ serverAt (ranBudgets d i n) i .deadline .tick → Dec (j ≡ i) → i ≤ j
+    ties j b v e (yes q) = omega arith
+    ties j b v e (no other) = omega (arith, before j b v other)

@@ -1,0 +1,155 @@
+-- Laws of a spell that is planned: no number in it is too large, and it is what the record says.
+use Prim.Native.Nat.{ℕ, zero, suc, _+_, _-_, _*_, _≤_, _<_, min}
+use lib.Dec.{eqb}
+use mathlib.Core.Bool.{Bool, true, false, cond}
+use mathlib.Core.List.{List}
+use mathlib.Core.Path.{_≡_, refl, sym, _∙_, ap, subst, subst⁻¹, subst₂}
+use native.Mathlib.Decide.{decLt}
+use native.Mathlib.Nat.{le-mul-of-pos-right, mul-le-mul, mul-le-mul-left}
+use native.Mathlib.Omega.{arith}
+use Rattle.clock.specs.Clock.{lastTick}
+use Rattle.clock.specs.declared.Length.{Length}
+use Rattle.clock.specs.declared.Moment.{Moment}
+use Rattle.moments.proofs.OneGo.{servedFor}
+use Rattle.moments.proofs.OneGoLaws.{served-less, served-spent, served-waiting, served-budget}
+use Rattle.server.specs.Ranges.{Ranged}
+use Rattle.server.specs.declared.Server.{Server}
+use Rattle.sizes.specs.Sizes.{clockEnd, mostFrame}
+use Rattle.books.proofs.budgets.BudgetLaws.{periods-few}
+use Rattle.books.proofs.budgets.Budgets.{Able, budgetsOn, Further}
+use Rattle.books.proofs.tree.Keys.{keyOf}
+use Rattle.books.proofs.spell.Planned.{Planned}
+
+-- A server within its ranges before the end of the clock.
+module _ {t : Moment} {s : Server} (ranged : Ranged t s) (before : t .tick < clockEnd) where
+  pub ranged-early : s .deadline .tick ≤ mostFrame * clockEnd
+  ranged-early = omega (arith, ranged .deadline, mul-le-mul (ranged .period) before)
+
+  pub ranged-able : Able s
+  ranged-able =
+      record {
+        budget = ranged .budget;
+        fits = ranged .fits;
+        period = ranged .period;
+        remaining = ranged .remaining;
+        deadline = omega (arith, ranged-early);
+      }
+
+-- A server after k ticks: where it is postponed its deadline is one period later.
+pub served-able : (s : Server) (k : ℕ) → Able s → s .deadline .tick ≤ mostFrame * clockEnd → Able (servedFor s k)
+served-able s k able early = go (decLt k (s .remaining .ticks))
+  where
+    go : Dec (k < s .remaining .ticks) → Able (servedFor s k)
+    go (yes l) =
+        subst⁻¹ Able (served-less s k l)
+        (record {
+          budget = able .budget;
+          fits = able .fits;
+          period = able .period;
+          remaining = omega (arith, able .remaining);
+          deadline = able .deadline;
+        })
+    go (no l) =
+        subst⁻¹ Able (served-spent s k (omega arith))
+        (record {
+          budget = able .budget;
+          fits = able .fits;
+          period = able .period;
+          remaining = omega arith;
+          deadline = omega (arith, able .period, early);
+        })
+
+-- a budget is spent once at most
+pub spent-once : (k remaining : ℕ) {n : ℕ} → n ≡ cond (eqb k remaining) 1 0 → n ≤ 1
+spent-once k remaining {n} is = subst⁻¹ (λ (m : ℕ). m ≤ 1) is (go (eqb k remaining))
+  where
+    go : (b : Bool) → cond b 1 0 ≤ 1
+    go true = omega arith
+    go false = omega arith
+
+-- what is left of a job is within the work that then waits
+left-works : (ticks : ℕ) {spare rest waiting n : ℕ} → ticks + spare ≤ rest → rest ≤ waiting → n ≤ spare → n ≤ waiting - ticks
+left-works ticks within work few = omega arith
+
+-- The ticks of a spell, the server after them, and what is left of job and time.
+module _ {s : Server} {rest room ticks spare : ℕ} {after : Server} (able : Able s) (early : s .deadline .tick ≤ mostFrame * clockEnd)
+    (work : rest ≤ s .waiting .ticks) (time : room ≤ clockEnd) (ticks-is : ticks ≡ min (min (s .remaining .ticks) rest) room)
+    (after-is : after ≡ servedFor s ticks) (spare-is : spare ≡ min (rest - ticks) (room - ticks)) where
+  pub after-able : Able after
+  after-able = subst⁻¹ Able after-is (served-able s ticks able early)
+
+  after-budget : after .budget .ticks ≡ s .budget .ticks
+  after-budget = ap (λ (x : Server). x .budget .ticks) after-is ∙ ap (λ (q : Length). q .ticks) (served-budget s ticks)
+
+  after-waiting : after .waiting .ticks ≡ s .waiting .ticks - ticks
+  after-waiting = ap (λ (x : Server). x .waiting .ticks) after-is ∙ served-waiting s ticks
+
+  spare-job : ticks + spare ≤ rest
+  spare-job = omega arith
+
+  -- and b whole budgets
+  module _ {keys : List ℕ} {i b : ℕ} (further : Further keys i after spare b) where
+    pub further-spare : b * s .budget .ticks ≤ spare
+    further-spare = go b (λ l. omega (arith, further .fits l, ap (λ (q : ℕ). b * q) after-budget))
+      where
+        go : (n : ℕ) → (0 < n → n * s .budget .ticks ≤ spare) → n * s .budget .ticks ≤ spare
+        go zero fits = omega arith
+        go (suc n) fits = fits (omega arith)
+
+    pub further-works : b * after .budget .ticks ≤ after .waiting .ticks
+    further-works =
+        subst₂ (λ (work waiting : ℕ). work ≤ waiting) (ap (λ (q : ℕ). b * q) (sym after-budget)) (sym after-waiting)
+        (left-works ticks spare-job work further-spare)
+
+    -- each has a tick at least
+    pub further-few : b ≤ clockEnd
+    further-few = omega (arith, further-spare, le-mul-of-pos-right b (able .budget))
+
+    pub last-key : i < 64 → budgetsOn after b .deadline .tick * 64 + i ≤ lastTick
+    unfolding budgetsOn
+    last-key l = omega (arith, after-able .deadline, periods-few after b after-able further-few)
+
+    pub gone-few : ticks + b * s .budget .ticks ≤ clockEnd
+    gone-few = omega (arith, further-spare)
+
+    pub planned : {last : Server} {key spent : ℕ} → 0 < rest → 0 < s .remaining .ticks → 0 < room → last ≡ budgetsOn after b
+        → key ≡ keyOf last i → spent ≡ cond (eqb ticks (s .remaining .ticks)) 1 0
+        → Planned keys i s rest room ticks after b last key (ticks + b * s .budget .ticks) (spent + b)
+    planned {last} {key} {spent} some-rest some-budget some-room last-is key-is spent-is =
+        record {
+          some = omega arith;
+          inside = omega arith;
+          budget = omega arith;
+          time = omega arith;
+          after-is = after-is;
+          spare = spare;
+          of-job = omega arith;
+          of-time = omega arith;
+          further = subst (λ (x : Server). Further keys i x spare b) after-is further;
+          last-is = whole;
+          key-is = key-is ∙ ap (λ (x : Server). keyOf x i) whole;
+          gone-is = refl;
+          gone-rest = omega (arith, further-spare);
+          gone-room = omega (arith, further-spare);
+          postponed-is = ap (λ (n : ℕ). n + b) spent-is;
+          able = after-able;
+          works = further-works;
+          gone-after = ap (λ (q : ℕ). ticks + b * q) after-budget;
+        }
+      where
+        whole : last ≡ budgetsOn (servedFor s ticks) b
+        whole = last-is ∙ ap (λ (x : Server). budgetsOn x b) after-is
+
+-- a spell postpones its server at most once more than it has budgets, and each budget takes a tick at least
+pub planned-few : {keys : List ℕ} {i : ℕ} {s : Server} {rest room ticks : ℕ} {after : Server} {budgets : ℕ} {last : Server}
+    {key gone postponed : ℕ} → Planned keys i s rest room ticks after budgets last key gone postponed → 1 ≤ s .budget .ticks
+    → postponed ≤ room + 1
+planned-few {s = s} {ticks = ticks} {budgets = budgets} p one =
+    omega (
+      arith,
+      p .postponed-is,
+      spent-once ticks (s .remaining .ticks) refl,
+      p .gone-is,
+      p .gone-room,
+      mul-le-mul-left budgets one,
+    )

@@ -1,0 +1,3 @@
+pub mod Segmented
+pub mod Stretches
+pub mod Turns

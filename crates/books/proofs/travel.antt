@@ -1,0 +1,11 @@
+pub mod ArrivalTaken
+pub mod AtHorizon
+pub mod BeforeArrivals
+pub mod BetweenEvents
+pub mod EventBooks
+pub mod Events
+pub mod IdleTime
+pub mod Stands
+pub mod Summaries
+pub mod Travels
+pub mod WholeRun

@@ -1,0 +1,87 @@
+-- A dispatcher at its start is made server by server, and is within the ranges of the moves.
+use Prim.Native.Nat.{ℕ, suc, _≤_, _<_, zero-le}
+use borrow.Author.Tests.{lt-ltb, le-ltb}
+use lib.ListN.{getD, replicate, set, List·getD-eq-default}
+use mathlib.Core.Logic.{_≢_}
+use mathlib.Core.Path.{_≡_, sym, _∙_}
+use native.Mathlib.Decide.{decLt}
+use native.Mathlib.Nat.{le-trans}
+use native.Mathlib.Omega.{arith}
+use Rattle.booking.proofs.AdmissionLaws.{Admitted}
+use Rattle.booking.proofs.ShareLaws.{period-le-frame}
+use Rattle.booking.specs.Admission.{Table}
+use Rattle.booking.specs.declared.Booking.{Booking}
+use Rattle.clock.specs.Clock.{moment}
+use Rattle.clock.specs.declared.Length.{Length}
+use Rattle.counting.proofs.PlacesLaws.{length-places, getD-places, places-same, places-replicate, set-places}
+use Rattle.counting.specs.Places.{places}
+use Rattle.server.proofs.RangeLaws.{fresh-ranged}
+use Rattle.server.specs.Ranges.{Ranged}
+use Rattle.server.specs.Server.{blank, fresh}
+use Rattle.sizes.specs.Sizes.{mostFrame, mostServers}
+use Rattle.dispatcher.specs.Pick.{serverAt}
+use Rattle.dispatcher.specs.Start.{startAt, atStart}
+use Rattle.dispatcher.specs.Within.{Within}
+
+-- One server after the other: with the first k in place, the next one's.
+module _ (booking : ℕ → Booking) where
+  abbrev pub firstOf : ℕ → Table
+  firstOf k = record { count = k; booking = booking }
+
+  pub start-none : replicate mostServers blank ≡ places mostServers (startAt (firstOf 0))
+  start-none =
+      places-replicate mostServers blank ∙ places-same mostServers (λ i. blank) (startAt (firstOf 0)) (λ i h. rw (le-ltb i 0 zero-le))
+
+  pub start-more : (k : ℕ) → k < mostServers
+      → set (places mostServers (startAt (firstOf k))) k (fresh (booking k)) ≡ places mostServers (startAt (firstOf (suc k)))
+  start-more k h =
+      rw (sym here)
+      (set-places mostServers (startAt (firstOf k)) (startAt (firstOf (suc k))) k h (λ i q. elsewhere i q (decLt i k)))
+    where
+      here : startAt (firstOf (suc k)) k ≡ fresh (booking k)
+      here = rw (lt-ltb k (suc k) (omega arith))
+
+      elsewhere : (i : ℕ) → i ≢ k → Dec (i < k) → startAt (firstOf k) i ≡ startAt (firstOf (suc k)) i
+      elsewhere i q (yes b) = rw (lt-ltb i k b, lt-ltb i (suc k) (omega arith))
+      elsewhere i q (no b) = rw (le-ltb i k (omega arith), le-ltb i (suc k) (omega arith))
+
+-- each place of it, and each of its servers, which is fresh
+start-at : (t : Table) (k : ℕ) → k < mostServers → getD (places mostServers (startAt t)) k blank ≡ startAt t k
+start-at t k h = getD-places mostServers (startAt t) k blank h
+
+pub start-server : (H : Length) (t : Table) → t .count ≤ mostServers → (k : ℕ) → k < t .count → serverAt (atStart H t) k ≡ fresh (t .booking k)
+unfolding atStart
+start-server H t few k h = start-at t k (omega arith) ∙ rw (lt-ltb k (t .count) h)
+
+module _ (H : Length) (t : Table) (from : 1 ≤ H .ticks) (to : H .ticks ≤ mostFrame) (few : t .count ≤ mostServers)
+    (good : (k : ℕ) → k < t .count → Ranged (moment 0) (fresh (t .booking k))) where
+  pub start-within : Within (atStart H t)
+  unfolding atStart
+  start-within =
+      record {
+        frame-from = from;
+        frame-to = to;
+        clock = omega arith;
+        count = few;
+        places = length-places mostServers (startAt t);
+        servers = ranged;
+        behind = λ k h. behind k h (decLt k mostServers);
+      }
+    where
+      ranged : (k : ℕ) → k < t .count → Ranged (moment 0) (getD (places mostServers (startAt t)) k blank)
+      ranged k h =
+          rw (start-at t k (omega arith), lt-ltb _ _ h) (good k h)
+
+      behind : (k : ℕ) → t .count ≤ k → Dec (k < mostServers) → getD (places mostServers (startAt t)) k blank ≡ blank
+      behind k h (yes b) = rw (start-at t k b, le-ltb _ _ h)
+      behind k h (no b) =
+          List·getD-eq-default (places mostServers (startAt t)) blank (omega (arith, length-places mostServers (startAt t)))
+
+-- an admitted table's dispatcher starts within the ranges
+pub admitted-within : (H : Length) (t : Table) → 1 ≤ H .ticks → H .ticks ≤ mostFrame → t .count ≤ mostServers → Admitted H t
+    → Within (atStart H t)
+admitted-within H t from to few admitted =
+    start-within H t from to few
+    (λ k h.
+    let good = admitted .sound k h in
+    fresh-ranged (t .booking k) (moment 0) (good .budget) (good .fits) (le-trans (period-le-frame H (t .booking k) good from) to))

@@ -1,0 +1,108 @@
+-- A finish is known as soon as the ticks are served: never before, at that very moment, and unchanged after.
+use Prim.Native.Nat.{ℕ, zero, suc, _-_, _≤_, _<_}
+use borrow.Author.Tests.{eqb-true, leb-true, eq-eqb, ne-eqb, le-leb, lt-leb}
+use lib.Dec.{eqb, leb}
+use mathlib.Core.Bool.{Bool, true, false, cond}
+use mathlib.Core.Path.{_≡_, refl, sym, _∙_, subst}
+use native.Mathlib.Decide.{decLt}
+use native.Mathlib.Nat.{add-sub-of-le, not-suc-le-zero}
+use native.Mathlib.Omega.{arith}
+use Rattle.counting.proofs.FirstLaws.{first-is, first-none, first-more, first-passes}
+use Rattle.counting.specs.First.{first}
+use Rattle.history.proofs.ChoiceLaws.{served-start, served-step, served-more}
+use Rattle.history.specs.Choice.{History, served}
+use Rattle.finish.specs.Finish.{firstServed, isOpen, at, servedBy}
+
+-- Of server i and an amount of work.
+module _ (h : History) (i work : ℕ) where
+  -- the ticks before an earlier moment are no more
+  served-to : (t u : ℕ) → t ≤ u → served h i t ≤ served h i u
+  served-to t u le = subst (λ (v : ℕ). served h i t ≤ served h i v) (add-sub-of-le le) (served-more h i t (u - t))
+
+  abbrev reached : ℕ → Bool
+  reached t = eqb (served h i t) work
+
+  not-yet : (t u : ℕ) → u ≤ t → served h i t < work → reached u ≡ false
+  not-yet t u le less =
+      ne-eqb (served h i u) work (λ (e : served h i u ≡ work). let no : ⊥ = omega (arith, served-to u t le) in absurd no)
+
+  -- ticks come one at a time, so what is served by t was reached on the way
+  first-reached : (t : ℕ) → work ≤ served h i t → first (suc t) reached < suc t
+  first-reached zero b = rw here (omega arith)
+    where
+      here : first 1 reached ≡ 0
+      here =
+          first-is 1 reached 0 (omega arith) (eq-eqb (served h i 0) work (omega (arith, served-start h i)))
+          (λ j q. absurd (not-suc-le-zero q))
+  first-reached (suc t) b = go (decLt (served h i t) work) (first-reached t)
+    where
+      go : Dec (served h i t < work) → (work ≤ served h i t → first (suc t) reached < suc t)
+          → first (suc (suc t)) reached < suc (suc t)
+      go (no more) before =
+          let found : first (suc t) reached < suc t = before (omega arith) in
+          omega (arith, first-more (suc t) (suc (suc t)) reached found (omega arith))
+      go (yes less) before =
+          let here : first (suc (suc t)) reached ≡ suc t
+          = first-is (suc (suc t)) reached (suc t) (omega arith)
+          (eq-eqb (served h i (suc t)) work (omega (arith, served-step h i t .1)))
+          (λ j q. not-yet t j (omega arith) less) in
+          omega arith
+
+  -- never before
+  pub finish-open : (t : ℕ) → served h i t < work → servedBy h i work t ≡ isOpen
+  unfolding servedBy firstServed
+  finish-open t less = rw (first-none (suc t) reached (λ u b. not-yet t u (omega arith) less), lt-leb (suc t) t (omega arith))
+
+  -- unchanged after
+  pub finish-stays : (t u : ℕ) → work ≤ served h i t → t ≤ u → servedBy h i work u ≡ servedBy h i work t
+  unfolding servedBy firstServed
+  finish-stays t u more le =
+      let found : first (suc t) reached < suc t = first-reached t more in
+      let stays : first (suc u) reached ≡ first (suc t) reached = first-more (suc t) (suc u) reached found (omega arith) in
+      rw (stays, le-leb (first (suc t) reached) t (omega arith), le-leb (first (suc t) reached) u (omega arith))
+
+  -- and at that very moment: the tick before u was not yet enough
+  pub finish-now : (u : ℕ) → served h i u < work → served h i (suc u) ≡ work → servedBy h i work (suc u) ≡ at (suc u)
+  unfolding servedBy firstServed
+  finish-now u less e =
+      let here : first (suc (suc u)) reached ≡ suc u
+      = first-is (suc (suc u)) reached (suc u) (omega arith) (eq-eqb (served h i (suc u)) work e) (λ j q. not-yet u j (omega arith) less) in
+      rw (here, le-leb (suc u) (suc u) (omega arith))
+
+  -- while the server is not served
+  pub finish-unserved : (t u : ℕ) → t ≤ u → served h i u ≡ served h i t → servedBy h i work u ≡ servedBy h i work t
+  finish-unserved t u le e = go (decLt (served h i t) work)
+    where
+      go : Dec (served h i t < work) → servedBy h i work u ≡ servedBy h i work t
+      go (yes less) = finish-open u (omega arith) ∙ sym (finish-open t less)
+      go (no more) = finish-stays t u (omega arith) le
+
+  -- what has finished at t has its work served by t
+  finish-served : (N t : ℕ) → servedBy h i work N ≡ at t → served h i t ≡ work
+  unfolding servedBy firstServed
+  finish-served N t e = go (leb (first (suc N) reached) N) refl
+    where
+      go : (b : Bool) → leb (first (suc N) reached) N ≡ b → served h i t ≡ work
+      go true l =
+          let found : first (suc N) reached < suc N = omega (arith, leb-true (first (suc N) reached) N l) in
+          let same : at (first (suc N) reached) ≡ at t = subst (λ (b : Bool). cond b (at (first (suc N) reached)) isOpen ≡ at t) l e in
+          let moment : first (suc N) reached ≡ t = cc in
+          subst (λ (u : ℕ). served h i u ≡ work) moment
+          (eqb-true (served h i (first (suc N) reached)) work (first-passes (suc N) reached found))
+      go false l =
+          let never : isOpen ≡ at t = subst (λ (b : Bool). cond b (at (first (suc N) reached)) isOpen ≡ at t) l e in
+          let none : _≡_ {A = ℕ} 0 1 = cc in
+          let no : ⊥ = omega arith in
+          absurd no
+
+  -- so it finishes after every moment by which less was served
+  pub finish-after : (N t u : ℕ) → servedBy h i work N ≡ at t → served h i u < work → u < t
+  finish-after N t u e less = go (decLt u t)
+    where
+      go : Dec (u < t) → u < t
+      go (yes l) = l
+      go (no l) = let no : ⊥ = omega (arith, finish-served N t e, served-to t u (omega arith)) in absurd no
+
+  -- "Zero is never a finish."
+  pub finish-not-zero : (N t : ℕ) → 0 < work → servedBy h i work N ≡ at t → 0 < t
+  finish-not-zero N t some e = finish-after N t 0 e (omega (arith, served-start h i))

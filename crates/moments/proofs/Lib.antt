@@ -1,0 +1,5 @@
+pub mod GivenLaws
+pub mod MomentLaws
+pub mod OneGo
+pub mod OneGoLaws
+pub mod PostponedLaws

@@ -1,0 +1,59 @@
+-- What a lent list holds of a trace: its first segments, which have what all have, and add up to no more than all.
+use Prim.Native.Nat.{ℕ, zero, suc, _+_, _*_, _≤_, _<_}
+use lib.ListN.{length, getD}
+use mathlib.Core.List.{List, [], _∷_}
+use mathlib.Core.Path.{_≡_, refl, ap, ap₂, subst⁻¹}
+use native.Mathlib.Nat.{le-of-suc-le-suc, not-suc-le-zero}
+use native.Mathlib.Omega.{arith}
+use Rattle.counting.proofs.SumLaws.{sum-front}
+use Rattle.counting.specs.Sum.{sum}
+use Rattle.trace.specs.declared.Segment.{Segment}
+use Rattle.trace.specs.Segments.{Every}
+use Rattle.trace.proofs.SegmentLaws.{every-at}
+use Rattle.trace.specs.Ticks.{added}
+use Rattle.trace.specs.Written.{segmentIn, written}
+
+-- segment k stands in the list where it fits
+pub segment-at : (tr : List Segment) (list : List ℕ) (k : ℕ) (d : Segment) → k < length tr → 4 * k + 4 ≤ length list
+    → segmentIn (written tr list) k ≡ getD tr k d
+unfolding written
+segment-at [] list k d h fits = absurd (not-suc-le-zero h)
+segment-at (s ∷ tr) [] k d h fits = let no : ⊥ = omega arith in absurd no
+segment-at (s ∷ tr) (a ∷ []) k d h fits = let no : ⊥ = omega arith in absurd no
+segment-at (s ∷ tr) (a ∷ b ∷ []) k d h fits = let no : ⊥ = omega arith in absurd no
+segment-at (s ∷ tr) (a ∷ b ∷ c ∷ []) k d h fits = let no : ⊥ = omega arith in absurd no
+segment-at (s ∷ tr) (a ∷ b ∷ c ∷ e ∷ list) zero d h fits = refl
+segment-at (s ∷ tr) (a ∷ b ∷ c ∷ e ∷ list) (suc k) d h fits =
+    rw (four 1, four 2, four 3, none) (segment-at tr list k d (le-of-suc-le-suc h) (omega arith))
+  where
+    four : (n : ℕ) → 4 * suc k + n ≡ suc (suc (suc (suc (4 * k + n))))
+    four n = omega arith
+
+    none : 4 * suc k ≡ suc (suc (suc (suc (4 * k))))
+    none = omega arith
+
+-- what every segment has, each that a lent list holds has
+pub held-has : (P : Segment → Type 0) (tr : List Segment) (list : List ℕ) → Every P tr
+    → (k : ℕ) → k < length tr → 4 * k + 4 ≤ length list → P (segmentIn (written tr list) k)
+held-has P tr list x k h fits = subst⁻¹ P (segment-at tr list k (segmentIn [] 0) h fits) (every-at P tr (segmentIn [] 0) x k h)
+
+-- the first n of a list add up to no more than all
+pub added-first : (f : Segment → ℕ) (l : List Segment) (d : Segment) (n : ℕ) → n ≤ length l → sum n (λ k. f (getD l k d)) ≤ added f l
+unfolding sum added
+added-first f l d zero h = omega arith
+added-first f [] d (suc n) h = absurd (not-suc-le-zero h)
+added-first f (s ∷ l) d (suc n) h = omega (arith, sum-front n (λ k. f (getD (s ∷ l) k d)), added-first f l d n (le-of-suc-le-suc h))
+
+-- the first n that a lent list holds add up to what the first n of the trace do
+held-sum : (f : Segment → ℕ) (tr : List Segment) (list : List ℕ) (d : Segment) (n : ℕ) → n ≤ length tr → 4 * n ≤ length list
+    → sum n (λ k. f (segmentIn (written tr list) k)) ≡ sum n (λ k. f (getD tr k d))
+unfolding sum
+held-sum f tr list d zero h fits = refl
+held-sum f tr list d (suc n) h fits =
+    ap₂ _+_ (held-sum f tr list d n (omega arith) (omega arith)) (ap f (segment-at tr list n d h (omega arith)))
+
+-- and so to no more than all
+pub held-added : (f : Segment → ℕ) (tr : List Segment) (list : List ℕ) (n : ℕ) → n ≤ length tr → 4 * n ≤ length list
+    → sum n (λ k. f (segmentIn (written tr list) k)) ≤ added f tr
+held-added f tr list n h fits =
+    omega (arith, held-sum f tr list (segmentIn [] 0) n h fits, added-first f tr (segmentIn [] 0) n h)

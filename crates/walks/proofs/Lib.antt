@@ -1,0 +1,4 @@
+pub mod Locals
+pub mod OneOutcomeLaws
+pub mod Steps
+pub mod Turns
