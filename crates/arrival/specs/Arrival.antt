@@ -6,5 +6,5 @@ use Rattle.clock.specs.declared.Length.{Length}
 use Rattle.sizes.specs.Sizes.{mostCost}
 
 -- refusal 6: "an arrival names a server not below n, or a cost out of range", the range being "1 to 604,800"
-abbrev pub faulty : ℕ → ℕ → Length → Bool
-faulty n server cost = leb n server || ltb (cost .ticks) 1 || ltb mostCost (cost .ticks)
+abbrev pub faultyArrival : ℕ → ℕ → Length → Bool
+faultyArrival n server cost = leb n server || ltb (cost .ticks) 1 || ltb mostCost (cost .ticks)

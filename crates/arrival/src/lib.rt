@@ -1,6 +1,6 @@
 // An arrival brings work to one server at one moment: whether what it names can be taken.
 ghost use mathlib.Core.Path.{_≡_};
-ghost use Rattle.arrival.specs.Arrival.{faulty};
+ghost use Rattle.arrival.specs.Arrival.{faultyArrival};
 use clock::Length;
 use clock::Moment;
 
@@ -12,7 +12,7 @@ pub struct Arrival {
 
 // Whether an arrival at a table of `count` servers names no server of it, or a cost out of range.
 pub fn is_faulty(count: usize, server: usize, cost: Length) -> bool
-    ensures { λ r. ⌜ r ≡ faulty count server cost ⌝ }
+    ensures { λ r. ⌜ r ≡ faultyArrival count server cost ⌝ }
 {
     let ticks = cost.ticks;
     if server >= count {

@@ -13,13 +13,13 @@ use Rattle.counting.specs.Sum.{sum}
 use Rattle.refusal.proofs.AcceptedLaws.{accepted-test}
 use Rattle.refusal.specs.Refusals.{refused, accepted}
 use Rattle.booking.specs.Admission.{Table, firstFaulty, shares, admission}
-use Rattle.booking.specs.Share.{faulty, share, shareOf}
+use Rattle.booking.specs.Share.{faultyBooking, share, shareOf}
 use Rattle.booking.proofs.ShareLaws.{Sound, sound, share-le-frame, shareOf-faulty, shareOf-share}
 
 module _ (H : Length) (t : Table) where
   -- none of the first k servers is faulty
   abbrev pub NoneFaulty : ℕ → Type 0
-  NoneFaulty k = (j : ℕ) → j < k → faulty H (t .booking j) ≡ false
+  NoneFaulty k = (j : ℕ) → j < k → faultyBooking H (t .booking j) ≡ false
 
   -- One server after the other: none of the first k is faulty, and their shares add up to `added`.
   pub record Sofar (k added : ℕ) : Type 0 where
@@ -34,9 +34,9 @@ module _ (H : Length) (t : Table) where
       → Sofar (suc k) (added + shareOf H (t .booking k) .share .ticks)
   unfolding sum
   sofar-more {k} {added} s e =
-      let f : faulty H (t .booking k) ≡ false = sym (shareOf-faulty H (t .booking k)) ∙ e in
+      let f : faultyBooking H (t .booking k) ≡ false = sym (shareOf-faulty H (t .booking k)) ∙ e in
       record {
-        none = below-suc (λ (j : ℕ). faulty H (t .booking j) ≡ false) k (s .none) f;
+        none = below-suc (λ (j : ℕ). faultyBooking H (t .booking j) ≡ false) k (s .none) f;
         added-is = rw (s .added-is, shareOf-share H (t .booking k) f);
       }
 
@@ -51,7 +51,7 @@ module _ (H : Length) (t : Table) where
   pub sofar-faulty : {k added : ℕ} → Sofar k added → k < t .count → shareOf H (t .booking k) .faulty ≡ true → admission H t ≡ refused 4 k
   sofar-faulty {k} {added} s h e =
       rw (
-        first-is (t .count) (λ j. faulty H (t .booking j)) k h (sym (shareOf-faulty H (t .booking k)) ∙ e) (s .none),
+        first-is (t .count) (λ j. faultyBooking H (t .booking j)) k h (sym (shareOf-faulty H (t .booking k)) ∙ e) (s .none),
         lt-ltb _ _ h,
       )
 
@@ -59,7 +59,7 @@ module _ (H : Length) (t : Table) where
   pub sofar-over : {added : ℕ} → Sofar (t .count) added → H .ticks < added → admission H t ≡ refused 5 0
   sofar-over s h =
       rw (
-        first-none (t .count) (λ j. faulty H (t .booking j)) (s .none),
+        first-none (t .count) (λ j. faultyBooking H (t .booking j)) (s .none),
         le-ltb _ _ (le-refl (t .count)),
         lt-ltb _ _ (rw (s .added-is) at h),
       )
@@ -67,7 +67,7 @@ module _ (H : Length) (t : Table) where
   pub sofar-whole : {added : ℕ} → Sofar (t .count) added → added ≤ H .ticks → admission H t ≡ accepted
   sofar-whole s h =
       rw (
-        first-none (t .count) (λ j. faulty H (t .booking j)) (s .none),
+        first-none (t .count) (λ j. faultyBooking H (t .booking j)) (s .none),
         le-ltb _ _ (le-refl (t .count)),
         le-ltb _ _ (rw (s .added-is) at h),
       )
@@ -84,6 +84,6 @@ module _ (H : Length) (t : Table) where
       record {
         sound = λ k h.
             sound H (t .booking k)
-            (first-before (t .count) (λ j. faulty H (t .booking j)) k (le-trans h (ltb-false _ _ (four .0))));
+            (first-before (t .count) (λ j. faultyBooking H (t .booking j)) k (le-trans h (ltb-false _ _ (four .0))));
         within = ltb-false _ _ (five .0);
       }

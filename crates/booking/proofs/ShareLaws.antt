@@ -9,7 +9,7 @@ use native.Mathlib.Omega.{arith}
 use Rattle.clock.specs.declared.Length.{Length}
 use Rattle.counting.proofs.TestLaws.{none-of-four}
 use Rattle.booking.specs.declared.Booking.{Booking}
-use Rattle.booking.specs.Share.{faulty, share, shareOf}
+use Rattle.booking.specs.Share.{faultyBooking, share, shareOf}
 
 -- what a booking without a fault has
 pub record Sound (H : Length) (b : Booking) : Type 0 where
@@ -17,7 +17,7 @@ pub record Sound (H : Length) (b : Booking) : Type 0 where
   pub fits : b .budget .ticks ≤ b .period .ticks
   pub divides : b .period .ticks * (H .ticks / b .period .ticks) ≡ H .ticks
 
-pub sound : (H : Length) (b : Booking) → faulty H b ≡ false → Sound H b
+pub sound : (H : Length) (b : Booking) → faultyBooking H b ≡ false → Sound H b
 sound H b e =
     let tests = none-of-four (eqb (b .period .ticks) 0) _ _ _ e in
     let r : H .ticks % b .period .ticks ≡ 0 = eqb-true _ _ (not-false _ (tests .1)) in
@@ -47,12 +47,12 @@ period-le-frame H b s h = go (H .ticks / b .period .ticks) (s .divides)
     go (suc times) e = omega arith
 
 -- what the answer tells
-pub shareOf-faulty : (H : Length) (b : Booking) → shareOf H b .faulty ≡ faulty H b
-shareOf-faulty H b = go (faulty H b) refl
+pub shareOf-faulty : (H : Length) (b : Booking) → shareOf H b .faulty ≡ faultyBooking H b
+shareOf-faulty H b = go (faultyBooking H b) refl
   where
-    go : (f : Bool) → faulty H b ≡ f → shareOf H b .faulty ≡ faulty H b
+    go : (f : Bool) → faultyBooking H b ≡ f → shareOf H b .faulty ≡ faultyBooking H b
     go true f = rw f
     go false f = rw f
 
-pub shareOf-share : (H : Length) (b : Booking) → faulty H b ≡ false → shareOf H b .share ≡ share H b
+pub shareOf-share : (H : Length) (b : Booking) → faultyBooking H b ≡ false → shareOf H b .share ≡ share H b
 shareOf-share H b f = rw f

@@ -7,7 +7,7 @@ use Rattle.counting.specs.First.{first}
 use Rattle.counting.specs.Sum.{sum}
 use Rattle.refusal.specs.Refusals.{Said, refused, accepted}
 use Rattle.booking.specs.declared.Booking.{Booking}
-use Rattle.booking.specs.Share.{faulty, share}
+use Rattle.booking.specs.Share.{faultyBooking, share}
 
 -- a table: how many servers it has, and the booking of each
 pub record Table : Type 0 where
@@ -16,7 +16,7 @@ pub record Table : Type 0 where
 
 -- the first server that is faulty, or the count where none is
 abbrev pub firstFaulty : Length → Table → ℕ
-firstFaulty H t = first (t .count) (λ k. faulty H (t .booking k))
+firstFaulty H t = first (t .count) (λ k. faultyBooking H (t .booking k))
 
 -- the sum of the shares
 abbrev pub shares : Length → Table → ℕ

@@ -12,8 +12,8 @@ abbrev pub booked : ℕ → ℕ → Booking
 booked Q T = record { budget = ticks Q; period = ticks T }
 
 -- refusal 4: "a server has T = 0, or T not dividing H, or Q = 0, or Q > T"
-abbrev pub faulty : Length → Booking → Bool
-faulty H b =
+abbrev pub faultyBooking : Length → Booking → Bool
+faultyBooking H b =
     eqb (b .period .ticks) 0
     || not (eqb (H .ticks % b .period .ticks) 0)
     || eqb (b .budget .ticks) 0
@@ -26,4 +26,4 @@ share H b = ticks (b .budget .ticks * (H .ticks / b .period .ticks))
 -- whether a booking is faulty, and its share where it is not
 abbrev pub shareOf : Length → Booking → Share
 shareOf H b =
-    cond (faulty H b) (record { faulty = true; share = ticks 0 }) (record { faulty = false; share = share H b })
+    cond (faultyBooking H b) (record { faulty = true; share = ticks 0 }) (record { faulty = false; share = share H b })

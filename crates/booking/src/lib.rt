@@ -1,7 +1,7 @@
 // A booking, Q ticks in every T, against the frame: whether it is faulty, and its share where it is not.
 ghost use mathlib.Core.Path.{_≡_};
 ghost use Rattle.clock.specs.Clock.{ticks};
-ghost use Rattle.booking.specs.Share.{booked, faulty, shareOf};
+ghost use Rattle.booking.specs.Share.{booked, faultyBooking, shareOf};
 use clock::Length;
 
 pub struct Booking {
@@ -38,7 +38,7 @@ pub fn share_of(frame: Length, b: Booking) -> Share
 }
 
 fn is_faulty(h: u64, q: u64, t: u64) -> bool
-    ensures { λ r. ⌜ r ≡ faulty (ticks h) (booked q t) ⌝ }
+    ensures { λ r. ⌜ r ≡ faultyBooking (ticks h) (booked q t) ⌝ }
 {
     if t == 0 {
         return true;

@@ -6,6 +6,5 @@ pub mod EventBooks
 pub mod Events
 pub mod IdleTime
 pub mod Stands
-pub mod Summaries
 pub mod Travels
 pub mod WholeRun

@@ -5,21 +5,22 @@ use Prim.Native.String.{String}
 use mathlib.Core.List.{List, [], _∷_, _++_}
 use mathlib.Core.Path.{_≡_}
 use Rattle.booking.specs.Admission.{shares}
+use Rattle.booking.specs.Share.{booked}
 use Rattle.clock.specs.Clock.{moment, ticks}
 use Rattle.demand_3.specs.Files.{gotFrom}
-use Rattle.finish.specs.Finish.{Finish, isOpen, at}
+use Rattle.finish.specs.Finish.{Finish, isOpen, finishedAt}
 use Rattle.judgement.specs.Judgement as judgement
-use Rattle.moments.specs.Moments.{history}
-use Rattle.opening.specs.Opening.{listed, judged}
+use Rattle.opening.specs.Opening.{listed, tableJudged}
 use Rattle.refusal.specs.Refusals.{Said, refused, accepted}
 use Rattle.report.specs.DayReport.{dayReport}
 use Rattle.server.specs.Moves.{woken}
+use Rattle.server.specs.Server.{fresh, holding}
 use Rattle.server.specs.declared.Server.{Server}
-use Rattle.summary.specs.Summary.{finishes, summaryOf}
+use Rattle.summary.specs.Summary.{traceOf, finishes, summaryOf}
 use Rattle.summary.specs.declared.Response.the-variants.{Absent}
 use Rattle.summary.specs.declared.Summary.{Summary}
 use Rattle.text.specs.Line as line
-use Rattle.trace.specs.Trace.{trace}
+use Rattle.trace.specs.Written.{segmentOf}
 use Rattle.trace.specs.declared.Segment.{Segment}
 use Rattle.workfile.specs.Work.{work}
 
@@ -43,24 +44,12 @@ pub data Example : Type 0 where
 
 -- an idle server
 abbrev pub idleServer : (Q T c d : ℕ) → Server
-idleServer Q T c d =
-    record {
-      budget = ticks Q;
-      period = ticks T;
-      remaining = ticks c;
-      deadline = moment d;
-      waiting = ticks 0;
-    }
+idleServer Q T c d = holding (fresh (booked Q T)) (ticks c) (moment d) (ticks 0)
 
 -- the bytes of a file of small numbers, "low byte first"
-abbrev pub bytes : List ℕ → List ℕ
-bytes [] = []
-bytes (n ∷ more) = n ∷ 0 ∷ 0 ∷ 0 ∷ bytes more
-
--- start, length, server, deadline
-abbrev pub segment : (start long server deadline : ℕ) → Segment
-segment start long server deadline =
-    record { start = moment start; length = ticks long; server = server; deadline = moment deadline }
+abbrev pub fileOf : List ℕ → List ℕ
+fileOf [] = []
+fileOf (n ∷ more) = n ∷ 0 ∷ 0 ∷ 0 ∷ fileOf more
 
 -- "File P: H 10, N 12, servers (2, 5) and (3, 5), arrivals (0, 0, 5), (0, 1, 3), (6, 1, 2), no gaps."
 abbrev pub fileP : List ℕ
@@ -79,13 +68,13 @@ printed (l ∷ more) = line.bytes l ++ code "\n" ∷ printed more
 abbrev pub Holds : Example → Type 0
 Holds (waking Q T c d t d′ c′) = woken (idleServer Q T c d) (moment t) ≡ idleServer Q T c′ d′
 Holds (adding H table sum) = shares (ticks H) (listed table) ≡ sum
-Holds (judging H table answer) = judged table (ticks H) ≡ answer
-Holds (accepting file places) = judgement.judged (bytes file) places ≡ accepted
-Holds (tracing file segments) = trace (history (work (bytes file))) (work (bytes file) .horizon .tick) ≡ segments
-Holds (finishing file job finish) = finishes (work (bytes file)) job ≡ finish
-Holds (summing file server record′) = summaryOf (work (bytes file)) server ≡ record′
-Holds (getting file server a b got) = gotFrom (work (bytes file)) server a (moment b) ≡ got
-Holds (reporting file lines) = dayReport (bytes file) ≡ printed lines
+Holds (judging H table answer) = tableJudged table (ticks H) ≡ answer
+Holds (accepting file places) = judgement.judged (fileOf file) places ≡ accepted
+Holds (tracing file segments) = traceOf (work (fileOf file)) ≡ segments
+Holds (finishing file job finish) = finishes (work (fileOf file)) job ≡ finish
+Holds (summing file server record′) = summaryOf (work (fileOf file)) server ≡ record′
+Holds (getting file server a b got) = gotFrom (work (fileOf file)) server a (moment b) ≡ got
+Holds (reporting file lines) = dayReport (fileOf file) ≡ printed lines
 
 abbrev pub AllHold : List Example → Type 0
 AllHold [] = Unit {0}
@@ -115,10 +104,10 @@ checkedByHand =
     ∷ judging 20 (1 ∷ 3 ∷ []) (refused 4 0)
     -- "File P's segments and finishes"
     ∷ accepting fileP 3
-    ∷ tracing fileP (segment 0 2 0 5 ∷ segment 2 3 1 5 ∷ segment 5 2 0 10 ∷ segment 7 2 1 11 ∷ segment 9 1 0 15 ∷ [])
-    ∷ finishing fileP 0 (at 10)
-    ∷ finishing fileP 1 (at 5)
-    ∷ finishing fileP 2 (at 9)
+    ∷ tracing fileP (segmentOf 0 2 0 5 ∷ segmentOf 2 3 1 5 ∷ segmentOf 5 2 0 10 ∷ segmentOf 7 2 1 11 ∷ segmentOf 9 1 0 15 ∷ [])
+    ∷ finishing fileP 0 (finishedAt (moment 10))
+    ∷ finishing fileP 1 (finishedAt (moment 5))
+    ∷ finishing fileP 2 (finishedAt (moment 9))
     -- what demand 3 counts in those segments: server 0 gets 2 under deadlines up to 5, and 2 × 5 = 5 × 2 is all that it may; 4 up to 10 and
     -- up to 14, 5 up to 15; server 1, with no work waiting at 6, gets 2 from then on
     ∷ getting fileP 0 0 4 0
@@ -144,7 +133,7 @@ checkedByHand =
     ∷ [])
     -- File Q: "segments (1, 1, 0, 6), (2, 1, 0, 11), (3, 1, 0, 16), the job open, postponed 3, response absent, interrupted 2"
     ∷ accepting fileQ 1
-    ∷ tracing fileQ (segment 1 1 0 6 ∷ segment 2 1 0 11 ∷ segment 3 1 0 16 ∷ [])
+    ∷ tracing fileQ (segmentOf 1 1 0 6 ∷ segmentOf 2 1 0 11 ∷ segmentOf 3 1 0 16 ∷ [])
     ∷ finishing fileQ 0 isOpen
     ∷ summing fileQ 0 (record { arrived = 1; finished = 0; postponed = 3; interrupted = 2; response = Absent })
     -- "A 24-byte file with H 1, N 0, no servers, no arrivals, both offsets 24 gives `admitted 0 of 1` and `segments 0 shown 0`."

@@ -15,7 +15,7 @@ use Rattle.dispatcher.specs.declared.Dispatcher.{Dispatcher}
 use Rattle.dispatcher.specs.declared.Ticked.{Ticked}
 use Rattle.moments.specs.Moments.{choiceOf}
 use Rattle.opening.proofs.OpeningLaws.{accepted-in-range, accepted-admitted, opening-accepted}
-use Rattle.opening.specs.Opening.{listed, judged, opening, openingSays}
+use Rattle.opening.specs.Opening.{listed, tableJudged, opening, openingSays}
 use Rattle.opening.specs.declared.Opened.{Opened}
 use Rattle.refusal.specs.Refusals.{gave, accepted, onPaper}
 use Rattle.refusal.specs.declared.Verdict.the-variants.{Accepted}
@@ -52,7 +52,7 @@ live-demand-3 start t demand d led =
 
 -- What a caller has by the contract of `open_table`, where it answers `Accepted`.
 module _ (l : List ℕ) (H : Length) (r : Opened) (e : openingSays r ≡ opening l H) (answer : r .answer ≡ Accepted) where
-  opened-judged : judged l H ≡ accepted
+  opened-judged : tableJudged l H ≡ accepted
   unfolding opening
   opened-judged = sym (ap (λ (m : Moved (Unit {0})). m .answer) e) ∙ ap onPaper answer
 

@@ -9,12 +9,12 @@ use mathlib.Core.Path.{_≡_, refl, _∙_, ap, subst⁻¹}
 use native.Mathlib.Decide.{ℕ-discrete}
 use native.Mathlib.Omega.{arith}
 use Rattle.arrival.proofs.ArrivalLaws.{sound}
-use Rattle.arrival.specs.Arrival.{faulty}
+use Rattle.arrival.specs.Arrival.{faultyArrival}
 use Rattle.clock.specs.Clock.{later, ticks}
 use Rattle.clock.specs.declared.Length.{Length}
 use Rattle.dispatcher.proofs.MoveLaws.{tick-ended, tick-idle, tick-ran}
 use Rattle.dispatcher.proofs.PickLaws.{picked-earliest, picked-none}
-use Rattle.dispatcher.specs.Moves.{Moved, Turn, refusing, oneLater, tooMuchWork, arrival, idled, ran, tick}
+use Rattle.dispatcher.specs.Moves.{Moved, Turn, standing, refusing, tooMuchWork, arrival, idled, ran, tick}
 use Rattle.dispatcher.specs.Pick.{serverAt, picked, Earliest, NoneWorks}
 use Rattle.dispatcher.specs.Within.{Within}
 use Rattle.dispatcher.specs.declared.Dispatcher.{Dispatcher}
@@ -24,7 +24,7 @@ use Rattle.moments.specs.Moments.{choiceOf}
 use Rattle.refusal.specs.Refusals.{gave}
 use Rattle.server.proofs.MoveLaws.{arrived-waiting}
 use Rattle.server.specs.Moves.{arrived, served}
-use Rattle.server.specs.Server.{blank}
+use Rattle.server.specs.Server.{vacant}
 use Rattle.sizes.specs.Sizes.{clockEnd}
 
 -- What an arrival for server j does to server i: it passes it by, or it brings it work.
@@ -52,17 +52,17 @@ module _ {d : Dispatcher} (ok : Within d) where
 
   pub arrival-server : (j : ℕ) (cost : Length) (i : ℕ) → ArrivalServer d j cost i
   unfolding arrival
-  arrival-server j cost i = go (faulty (d .count) j cost) refl (tooMuchWork d j cost) refl (ℕ-discrete i j)
+  arrival-server j cost i = go (faultyArrival (d .count) j cost) refl (tooMuchWork d j cost) refl (ℕ-discrete i j)
     where
-      go : (f : Bool) → faulty (d .count) j cost ≡ f → (o : Bool) → tooMuchWork d j cost ≡ o → Dec (i ≡ j) → ArrivalServer d j cost i
+      go : (f : Bool) → faultyArrival (d .count) j cost ≡ f → (o : Bool) → tooMuchWork d j cost ≡ o → Dec (i ≡ j) → ArrivalServer d j cost i
       go true f o e q = passes (rw f)
       go false f true e q = passes (rw (f, e))
       go false f false e (yes q) =
           brings
           (rw (f, e, q)
-          (getD-set-same (d .servers) j (arrived (serverAt d j) (d .clock) cost) blank (here j (sound (d .count) j cost f .known))))
+          (getD-set-same (d .servers) j (arrived (serverAt d j) (d .clock) cost) vacant (here j (sound (d .count) j cost f .known))))
       go false f false e (no q) =
-          passes (rw (f, e) (getD-set-other (d .servers) j i (arrived (serverAt d j) (d .clock) cost) blank q))
+          passes (rw (f, e) (getD-set-other (d .servers) j i (arrived (serverAt d j) (d .clock) cost) vacant q))
 
   -- it takes no work away
   pub arrival-waiting : (j : ℕ) (cost : Length) (i : ℕ) → serverAt d i .waiting .ticks ≤ serverAt (arrival d j cost .dispatcher) i .waiting .ticks
@@ -75,7 +75,7 @@ module _ {d : Dispatcher} (ok : Within d) where
   -- A tick by its definition.
   data Way : Type 0 where
     byRefusal : tick d ≡ refusing d 10 → Way
-    byNobody : NoneWorks d (d .count) → tick d ≡ record { answer = gave idled; dispatcher = oneLater d } → Way
+    byNobody : NoneWorks d (d .count) → tick d ≡ record { answer = gave idled; dispatcher = standing d (later (d .clock) (ticks 1)) (d .servers) } → Way
     byServer : (p : ℕ) → Earliest d (d .count) p → tick d ≡ ran d p → Way
 
   way : Way
@@ -110,11 +110,11 @@ module _ {d : Dispatcher} (ok : Within d) where
     where
       at : (p : ℕ) → Earliest d (d .count) p → tick d ≡ ran d p → Dec (i ≡ p) → TickServer d i
       at p first e (no q) =
-          leaves (server-by e i ∙ getD-set-other (d .servers) p i (served (serverAt d p)) blank q)
+          leaves (server-by e i ∙ getD-set-other (d .servers) p i (served (serverAt d p)) vacant q)
           (ap (isFor i) (choice-by e) ∙ for-other i p (serverAt d p .deadline) q)
       at p first e (yes q) =
           subst⁻¹ (TickServer d) q
-          (serves first (server-by e p ∙ getD-set-same (d .servers) p (served (serverAt d p)) blank (here p (first .among))) (choice-by e))
+          (serves first (server-by e p ∙ getD-set-same (d .servers) p (served (serverAt d p)) vacant (here p (first .among))) (choice-by e))
 
       go : Way → TickServer d i
       go (byRefusal e) = leaves (server-by e i) (ap (isFor i) (choice-by e) ∙ for-nobody i)

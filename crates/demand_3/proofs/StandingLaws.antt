@@ -16,10 +16,9 @@ use Rattle.dispatcher.specs.Start.{atStart}
 use Rattle.dispatcher.specs.Within.{Within}
 use Rattle.dispatcher.specs.declared.Dispatcher.{Dispatcher}
 use Rattle.moments.proofs.MomentLaws.{arrival-keeps}
-use Rattle.server.proofs.MoveLaws.{arrived-booking, served-booking}
+use Rattle.server.proofs.MoveLaws.{bookingOf, arrived-booking, served-booking}
 use Rattle.server.proofs.Potential.{HasBudgetOrRests}
 use Rattle.server.proofs.PotentialLaws.{Booked, ranged-rests}
-use Rattle.server.specs.Server.{bookingOf}
 use Rattle.sizes.specs.Sizes.{mostFrame, mostServers}
 use Rattle.demand_3.proofs.MovedLaws.{ArrivalServer, passes, brings, TickServer, leaves, serves, arrival-server, tick-server, tick-count}
 

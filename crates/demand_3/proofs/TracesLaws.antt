@@ -14,7 +14,7 @@ use Rattle.judgement.proofs.FitLaws.{judged-fit}
 use Rattle.moments.specs.Moments.{atMoment, history, waitingAt}
 use Rattle.refusal.specs.declared.Verdict.the-variants.{Accepted}
 use Rattle.run.proofs.OutcomeLaws.{ran-judged, ran-accepting}
-use Rattle.run.specs.Outcome.{Outcome, says, outcome}
+use Rattle.run.specs.Outcome.{Outcome, runSays, outcome}
 use Rattle.run.specs.declared.Ran.{Ran}
 use Rattle.trace.proofs.HeldLaws.{held-has, held-added}
 use Rattle.trace.proofs.SegmentLaws.{every-map, trace-stretches}
@@ -66,7 +66,7 @@ written-demand-3 {w} ok list =
     tr = trace (history w) (w .horizon .tick)
 
 -- Of a call of `run`, by its contract, that answers `Accepted`.
-module _ (file list ends after ended : List ℕ) (r : Ran) (said : says r after ended ≡ outcome file list ends)
+module _ (file list ends after ended : List ℕ) (r : Ran) (said : runSays r after ended ≡ outcome file list ends)
     (answer : r .verdict ≡ Accepted) where
   -- its file's run satisfies demand 3
   pub ran-file-demand-3 : FileDemand3 (work file)
@@ -75,7 +75,7 @@ module _ (file list ends after ended : List ℕ) (r : Ran) (said : says r after 
   -- and so does what it leaves in the trace list
   pub ran-list-demand-3 : ListDemand3 (work file) (r .segments) after
   ran-list-demand-3 =
-      subst⁻¹ (λ (o : Outcome). ListDemand3 (work file) (o .segments) (o .traceList)) (ran-accepting file list ends after ended r said answer)
+      subst⁻¹ (λ (o : Outcome). ListDemand3 (work file) (o .segments) (o .traceLeft)) (ran-accepting file list ends after ended r said answer)
       (written-demand-3 (trace-demand-3 ran-file-demand-3) list)
 
   -- A server has no work waiting at a, if the finish list tells of each of its jobs that arrived before a that it has finished by then.
@@ -88,4 +88,4 @@ module _ (file list ends after ended : List ℕ) (r : Ran) (said : says r after 
       (eq-eqb (serverAt (atMoment (work file) a) i .waiting .ticks) 0
       (list-finished-idle ends (judged-fit file (length ends) (ran-judged file list ends after ended r said answer)) a i within
       (λ k listed own early.
-      rw (ap (λ (o : Outcome). o .finishList) (ran-accepting file list ends after ended r said answer)) at (told k listed own early))))
+      rw (ap (λ (o : Outcome). o .finishesLeft) (ran-accepting file list ends after ended r said answer)) at (told k listed own early))))

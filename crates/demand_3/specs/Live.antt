@@ -13,7 +13,7 @@ use Rattle.dispatcher.specs.Pick.{serverAt}
 use Rattle.dispatcher.specs.declared.Dispatcher.{Dispatcher}
 use Rattle.dispatcher.specs.declared.TickAnswer.the-variants.{Ran}
 use Rattle.dispatcher.specs.declared.Ticked.{Ticked}
-use Rattle.opening.specs.Opening.{listed, judged, opening}
+use Rattle.opening.specs.Opening.{listed, tableJudged, opening}
 use Rattle.refusal.specs.Refusals.{accepted}
 use Rattle.server.specs.Server.{idle}
 use Rattle.demand_3.specs.Got.{got}
@@ -43,7 +43,7 @@ pub record LiveDemand3 (t : Table) (d : Dispatcher) : Type 0 where
 
 -- Of every live table, a list of Q, T pairs and H, that is accepted; and of wherever moves lead from there. `LiveLaws` proves both.
 abbrev pub OfAcceptedOpenings : Type 0
-OfAcceptedOpenings = (l : List ℕ) (H : Length) → judged l H ≡ accepted → Demand3 (opening l H .dispatcher) (listed l)
+OfAcceptedOpenings = (l : List ℕ) (H : Length) → tableJudged l H ≡ accepted → Demand3 (opening l H .dispatcher) (listed l)
 
 abbrev pub WhereverMovesLead : Type 0
 WhereverMovesLead = (start : Dispatcher) (t : Table) → Demand3 start t → (d : Dispatcher) → Led start d → LiveDemand3 t d

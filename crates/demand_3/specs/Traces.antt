@@ -5,10 +5,9 @@ use mathlib.Core.List.{List}
 use Rattle.clock.specs.Clock.{moment, until}
 use Rattle.clock.specs.declared.Moment.{Moment}
 use Rattle.counting.specs.Sum.{sum}
-use Rattle.moments.specs.Moments.{history}
-use Rattle.trace.specs.Segments.{Every}
-use Rattle.trace.specs.Ticks.{endOf, ticksOf, added}
-use Rattle.trace.specs.Trace.{trace}
+use Rattle.summary.specs.Summary.{traceOf}
+use Rattle.trace.specs.Segments.{EverySegment}
+use Rattle.trace.specs.Ticks.{endOf, ticksOf, sumOver}
 use Rattle.trace.specs.Written.{fitting, segmentIn}
 use Rattle.trace.specs.declared.Segment.{Segment}
 use Rattle.workfile.specs.Work.{Work}
@@ -31,9 +30,9 @@ module _ (w : Work) where
 
   -- the whole trace
   pub record TraceDemand3 : Type 0 where
-    pub in-time : Every InTime (trace (history w) (w .horizon .tick))
+    pub in-time : EverySegment InTime (traceOf w)
     pub bandwidth : (i a : ℕ) → i < w .table .count → NoWorkAt w i a → (b : Moment)
-        → WithinBandwidth i a b (added (gotIn i a b) (trace (history w) (w .horizon .tick)))
+        → WithinBandwidth i a b (sumOver (gotIn i a b) (traceOf w))
 
   -- the trace list after a run that answers so many segments: of as many as it holds
   pub record ListDemand3 (segments : ℕ) (list : List ℕ) : Type 0 where

@@ -2,43 +2,44 @@
 use Prim.Native.Nat.{ℕ, _+_, _≤_, _<_}
 use borrow.Author.Tests.{eqb-false, ltb-true, ltb-false, eq-eqb, ne-eqb, lt-ltb, le-ltb}
 use lib.Dec.{eqb, ltb}
-use lib.ListN.{length, length-set, getD}
+use lib.ListN.{length, length-set, getD, set}
 use lib.Seq.{getD-set-same, getD-set-other}
 use mathlib.Core.Bool.{Bool, true, false}
 use mathlib.Core.Path.{_≡_, refl, _∙_, subst⁻¹}
 use native.Mathlib.Decide.{ℕ-discrete}
 use native.Mathlib.Omega.{arith}
 use Rattle.arrival.proofs.ArrivalLaws.{sound}
-use Rattle.arrival.specs.Arrival.{faulty}
+use Rattle.arrival.specs.Arrival.{faultyArrival}
+use Rattle.clock.specs.Clock.{later, ticks}
 use Rattle.clock.specs.declared.Length.{Length}
 use Rattle.refusal.specs.Refusals.{gave, accepted}
 use Rattle.server.proofs.RangeLaws.{ranged-later, arrived-ranged, served-ranged}
 use Rattle.server.specs.Moves.{arrived, served}
 use Rattle.server.specs.Ranges.{Ranged}
-use Rattle.server.specs.Server.{blank, idle}
+use Rattle.server.specs.Server.{vacant, idle}
 use Rattle.server.specs.declared.Server.{Server}
 use Rattle.sizes.specs.Sizes.{clockEnd, mostWaiting}
 use Rattle.dispatcher.specs.declared.Dispatcher.{Dispatcher}
-use Rattle.dispatcher.specs.Moves.{Moved, refusing, withServer, oneLater, tooMuchWork, arrival, idled, ran, tick}
+use Rattle.dispatcher.specs.Moves.{Moved, standing, refusing, tooMuchWork, arrival, idled, ran, tick}
 use Rattle.dispatcher.specs.Pick.{serverAt, picked}
 use Rattle.dispatcher.proofs.PickLaws.{picked-earliest}
 use Rattle.dispatcher.specs.Within.{Within}
 
 -- An arrival and a tick case by case.
 module _ (d : Dispatcher) where
-  pub arrival-faulty : (i : ℕ) (cost : Length) → faulty (d .count) i cost ≡ true → arrival d i cost ≡ refusing d 6
+  pub arrival-faulty : (i : ℕ) (cost : Length) → faultyArrival (d .count) i cost ≡ true → arrival d i cost ≡ refusing d 6
   unfolding arrival
   arrival-faulty i cost f = rw f
 
-  pub arrival-too-much : (i : ℕ) (cost : Length) → faulty (d .count) i cost ≡ false
+  pub arrival-too-much : (i : ℕ) (cost : Length) → faultyArrival (d .count) i cost ≡ false
       → mostWaiting < serverAt d i .waiting .ticks + cost .ticks → arrival d i cost ≡ refusing d 11
   unfolding arrival
   arrival-too-much i cost f h = rw (f, lt-ltb _ _ h)
 
-  pub arrival-whole : (i : ℕ) (cost : Length) → faulty (d .count) i cost ≡ false
+  pub arrival-whole : (i : ℕ) (cost : Length) → faultyArrival (d .count) i cost ≡ false
       → serverAt d i .waiting .ticks + cost .ticks ≤ mostWaiting
       → arrival d i cost
-      ≡ record { answer = accepted; dispatcher = withServer d i (arrived (serverAt d i) (d .clock) cost) }
+      ≡ record { answer = accepted; dispatcher = standing d (d .clock) (set (d .servers) i (arrived (serverAt d i) (d .clock) cost)) }
   unfolding arrival
   arrival-whole i cost f h = rw (f, le-ltb _ _ h)
 
@@ -51,16 +52,16 @@ module _ (d : Dispatcher) where
   tick-ran h p = rw (ne-eqb _ _ h, lt-ltb _ _ p)
 
   pub tick-idle : (d .clock .tick ≡ clockEnd → ⊥) → d .count ≤ picked d
-      → tick d ≡ record { answer = gave idled; dispatcher = oneLater d }
+      → tick d ≡ record { answer = gave idled; dispatcher = standing d (later (d .clock) (ticks 1)) (d .servers) }
   unfolding tick
   tick-idle h p = rw (ne-eqb _ _ h, le-ltb _ _ p)
 
 -- Every move keeps the ranges.
 
 -- with another server at a place that holds one
-pub withServer-within : {d : Dispatcher} → Within d → (i : ℕ) → i < d .count → (s : Server) → Ranged (d .clock) s
-    → Within (withServer d i s)
-withServer-within {d} ok i h s r =
+pub server-within : {d : Dispatcher} → Within d → (i : ℕ) → i < d .count → (s : Server) → Ranged (d .clock) s
+    → Within (standing d (d .clock) (set (d .servers) i s))
+server-within {d} ok i h s r =
     record {
       frame-from = ok .frame-from;
       frame-to = ok .frame-to;
@@ -68,20 +69,20 @@ withServer-within {d} ok i h s r =
       count = ok .count;
       places = simp length-set (ok .places);
       servers = λ j b. at j b (ℕ-discrete j i);
-      behind = λ j b. getD-set-other (d .servers) i j s blank (omega arith) ∙ ok .behind j b;
+      behind = λ j b. getD-set-other (d .servers) i j s vacant (omega arith) ∙ ok .behind j b;
     }
   where
     here : i < length (d .servers)
     here = omega (arith, ok .places, ok .count)
 
-    at : (j : ℕ) → j < d .count → Dec (j ≡ i) → Ranged (d .clock) (getD (withServer d i s .servers) j blank)
-    at j b (yes q) = subst⁻¹ (λ (k : ℕ). Ranged (d .clock) (getD (withServer d i s .servers) k blank)) q
-        (subst⁻¹ (Ranged (d .clock)) (getD-set-same (d .servers) i s blank here) r)
-    at j b (no q) = subst⁻¹ (Ranged (d .clock)) (getD-set-other (d .servers) i j s blank q) (ok .servers j b)
+    at : (j : ℕ) → j < d .count → Dec (j ≡ i) → Ranged (d .clock) (getD (standing d (d .clock) (set (d .servers) i s) .servers) j vacant)
+    at j b (yes q) = subst⁻¹ (λ (k : ℕ). Ranged (d .clock) (getD (standing d (d .clock) (set (d .servers) i s) .servers) k vacant)) q
+        (subst⁻¹ (Ranged (d .clock)) (getD-set-same (d .servers) i s vacant here) r)
+    at j b (no q) = subst⁻¹ (Ranged (d .clock)) (getD-set-other (d .servers) i j s vacant q) (ok .servers j b)
 
 -- one tick later, before the clock's end
-pub oneLater-within : {d : Dispatcher} → Within d → d .clock .tick < clockEnd → Within (oneLater d)
-oneLater-within {d} ok h =
+pub later-within : {d : Dispatcher} → Within d → d .clock .tick < clockEnd → Within (standing d (later (d .clock) (ticks 1)) (d .servers))
+later-within {d} ok h =
     record {
       frame-from = ok .frame-from;
       frame-to = ok .frame-to;
@@ -95,17 +96,17 @@ oneLater-within {d} ok h =
 -- an arrival
 pub arrival-within : {d : Dispatcher} → Within d → (i : ℕ) (cost : Length) → Within (arrival d i cost .dispatcher)
 unfolding arrival
-arrival-within {d} ok i cost = go (faulty (d .count) i cost) refl (tooMuchWork d i cost) refl
+arrival-within {d} ok i cost = go (faultyArrival (d .count) i cost) refl (tooMuchWork d i cost) refl
   where
-    known : faulty (d .count) i cost ≡ false → i < d .count
+    known : faultyArrival (d .count) i cost ≡ false → i < d .count
     known f = sound (d .count) i cost f .known
 
-    go : (f : Bool) → faulty (d .count) i cost ≡ f → (o : Bool) → tooMuchWork d i cost ≡ o → Within (arrival d i cost .dispatcher)
+    go : (f : Bool) → faultyArrival (d .count) i cost ≡ f → (o : Bool) → tooMuchWork d i cost ≡ o → Within (arrival d i cost .dispatcher)
     go true f o e = rw f ok
     go false f true e = rw (f, e) ok
     go false f false e =
         rw (f, e)
-        (withServer-within ok i (known f) (arrived (serverAt d i) (d .clock) cost)
+        (server-within ok i (known f) (arrived (serverAt d i) (d .clock) cost)
         (arrived-ranged (serverAt d i) (d .clock) cost (ok .servers i (known f)) (ltb-false _ _ e)))
 
 -- a tick that is given to a server with work
@@ -113,7 +114,7 @@ pub ran-within : {d : Dispatcher} → Within d → d .clock .tick < clockEnd →
     → Within (ran d i .dispatcher)
 unfolding ran
 ran-within {d} ok h i b w =
-    withServer-within (oneLater-within ok h) i b (served (serverAt d i))
+    server-within (later-within ok h) i b (served (serverAt d i))
     (served-ranged (serverAt d i) (d .clock) (ok .servers i b) (eqb-false _ _ w))
 
 -- a clock within its range that does not stand at its end has a tick left
@@ -130,7 +131,7 @@ tick-within {d} ok = go (eqb (d .clock .tick) clockEnd) refl (ltb (picked d) (d 
     go false e true q =
         rw (e, q)
         (ran-within ok (before-end ok (eqb-false _ _ e)) (picked d) (ltb-true _ _ q) (picked-earliest d (ltb-true _ _ q) .works))
-    go false e false q = rw (e, q) (oneLater-within ok (before-end ok (eqb-false _ _ e)))
+    go false e false q = rw (e, q) (later-within ok (before-end ok (eqb-false _ _ e)))
 
 -- what a move hands back, being what its definition gives, is within them
 pub and-within : {A : Type 0} {m n : Moved A} → Within (n .dispatcher) → m ≡ n → (m ≡ n) × Within (m .dispatcher)

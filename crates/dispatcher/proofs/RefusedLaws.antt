@@ -3,7 +3,7 @@ use Prim.Native.Nat.{ℕ}
 use lib.Dec.{eqb, ltb}
 use mathlib.Core.Bool.{Bool, true, false, cond}
 use mathlib.Core.Path.{refl, sym}
-use Rattle.arrival.specs.Arrival.{faulty}
+use Rattle.arrival.specs.Arrival.{faultyArrival}
 use Rattle.clock.specs.declared.Length.{Length}
 use Rattle.refusal.proofs.OnPaperLaws.{refused≢gave}
 use Rattle.sizes.specs.Sizes.{clockEnd}
@@ -20,7 +20,7 @@ module _ (d : Dispatcher) where
   pub arrival-refused : (i : ℕ) (cost : Length) → LeavesRefused d (arrival d i cost)
   unfolding arrival
   arrival-refused i cost =
-      either (faulty (d .count) i cost) (refusing d 6) _ (λ n p e. refl)
+      either (faultyArrival (d .count) i cost) (refusing d 6) _ (λ n p e. refl)
       (either (tooMuchWork d i cost) (refusing d 11) _ (λ n p e. refl) (λ n p e. absurd (refused≢gave (sym e))))
 
   pub tick-refused : LeavesRefused d (tick d)

@@ -17,7 +17,7 @@ use Rattle.counting.proofs.PlacesLaws.{length-places, getD-places, places-same,
 use Rattle.counting.specs.Places.{places}
 use Rattle.server.proofs.RangeLaws.{fresh-ranged}
 use Rattle.server.specs.Ranges.{Ranged}
-use Rattle.server.specs.Server.{blank, fresh}
+use Rattle.server.specs.Server.{vacant, fresh}
 use Rattle.sizes.specs.Sizes.{mostFrame, mostServers}
 use Rattle.dispatcher.specs.Pick.{serverAt}
 use Rattle.dispatcher.specs.Start.{startAt, atStart}
@@ -28,9 +28,9 @@ module _ (booking : ℕ → Booking) where
   abbrev pub firstOf : ℕ → Table
   firstOf k = record { count = k; booking = booking }
 
-  pub start-none : replicate mostServers blank ≡ places mostServers (startAt (firstOf 0))
+  pub start-none : replicate mostServers vacant ≡ places mostServers (startAt (firstOf 0))
   start-none =
-      places-replicate mostServers blank ∙ places-same mostServers (λ i. blank) (startAt (firstOf 0)) (λ i h. rw (le-ltb i 0 zero-le))
+      places-replicate mostServers vacant ∙ places-same mostServers (λ i. vacant) (startAt (firstOf 0)) (λ i h. rw (le-ltb i 0 zero-le))
 
   pub start-more : (k : ℕ) → k < mostServers
       → set (places mostServers (startAt (firstOf k))) k (fresh (booking k)) ≡ places mostServers (startAt (firstOf (suc k)))
@@ -46,8 +46,8 @@ module _ (booking : ℕ → Booking) where
       elsewhere i q (no b) = rw (le-ltb i k (omega arith), le-ltb i (suc k) (omega arith))
 
 -- each place of it, and each of its servers, which is fresh
-start-at : (t : Table) (k : ℕ) → k < mostServers → getD (places mostServers (startAt t)) k blank ≡ startAt t k
-start-at t k h = getD-places mostServers (startAt t) k blank h
+start-at : (t : Table) (k : ℕ) → k < mostServers → getD (places mostServers (startAt t)) k vacant ≡ startAt t k
+start-at t k h = getD-places mostServers (startAt t) k vacant h
 
 pub start-server : (H : Length) (t : Table) → t .count ≤ mostServers → (k : ℕ) → k < t .count → serverAt (atStart H t) k ≡ fresh (t .booking k)
 unfolding atStart
@@ -68,14 +68,14 @@ module _ (H : Length) (t : Table) (from : 1 ≤ H .ticks) (to : H .ticks ≤ mos
         behind = λ k h. behind k h (decLt k mostServers);
       }
     where
-      ranged : (k : ℕ) → k < t .count → Ranged (moment 0) (getD (places mostServers (startAt t)) k blank)
+      ranged : (k : ℕ) → k < t .count → Ranged (moment 0) (getD (places mostServers (startAt t)) k vacant)
       ranged k h =
           rw (start-at t k (omega arith), lt-ltb _ _ h) (good k h)
 
-      behind : (k : ℕ) → t .count ≤ k → Dec (k < mostServers) → getD (places mostServers (startAt t)) k blank ≡ blank
+      behind : (k : ℕ) → t .count ≤ k → Dec (k < mostServers) → getD (places mostServers (startAt t)) k vacant ≡ vacant
       behind k h (yes b) = rw (start-at t k b, le-ltb _ _ h)
       behind k h (no b) =
-          List·getD-eq-default (places mostServers (startAt t)) blank (omega (arith, length-places mostServers (startAt t)))
+          List·getD-eq-default (places mostServers (startAt t)) vacant (omega (arith, length-places mostServers (startAt t)))
 
 -- an admitted table's dispatcher starts within the ranges
 pub admitted-within : (H : Length) (t : Table) → 1 ≤ H .ticks → H .ticks ≤ mostFrame → t .count ≤ mostServers → Admitted H t

@@ -3,8 +3,9 @@ use Prim.Native.Nat.{ℕ, _+_}
 use lib.Dec.{eqb, ltb}
 use lib.ListN.{set}
 use mathlib.Core.Bool.{Bool, cond}
+use mathlib.Core.List.{List}
 use mathlib.Core.Path.{_≡_}
-use Rattle.arrival.specs.Arrival.{faulty}
+use Rattle.arrival.specs.Arrival.{faultyArrival}
 use Rattle.clock.specs.Clock.{later, ticks}
 use Rattle.clock.specs.declared.Length.{Length}
 use Rattle.clock.specs.declared.Moment.{Moment}
@@ -14,39 +15,26 @@ use Rattle.server.specs.declared.Server.{Server}
 use Rattle.sizes.specs.Sizes.{clockEnd, mostWaiting}
 use Rattle.dispatcher.specs.declared.Arrived.{Arrived}
 use Rattle.dispatcher.specs.declared.Dispatcher.{Dispatcher}
-use Rattle.dispatcher.specs.declared.Ticked.{Ticked}
 use Rattle.dispatcher.specs.declared.TickAnswer.{TickAnswer}
 use Rattle.dispatcher.specs.declared.TickAnswer.the-variants.{Idle, Ran, Refused}
+use Rattle.dispatcher.specs.declared.Ticked.{Ticked}
 use Rattle.dispatcher.specs.Pick.{serverAt, picked}
 
--- what a move says, and the dispatcher after it
+-- what a move says, and the dispatcher that it leaves
 pub record Moved (A : Type 0) : Type 0 where
   pub answer : Said A
   pub dispatcher : Dispatcher
 
--- the dispatcher with another server at place i
-abbrev pub withServer : Dispatcher → ℕ → Server → Dispatcher
-withServer d i s =
-    record {
-      frame = d .frame;
-      count = d .count;
-      clock = d .clock;
-      servers = set (d .servers) i s;
-    }
+abbrev pub leaving : {A : Type 0} → Said A → Dispatcher → Moved A
+leaving said d = record { answer = said; dispatcher = d }
 
--- step 4: "The clock is t + 1."
-abbrev pub oneLater : Dispatcher → Dispatcher
-oneLater d =
-    record {
-      frame = d .frame;
-      count = d .count;
-      clock = later (d .clock) (ticks 1);
-      servers = d .servers;
-    }
+-- the dispatcher at moment t with these servers: no move alters H and n
+abbrev pub standing : Dispatcher → Moment → List Server → Dispatcher
+standing d t servers = record { frame = d .frame; count = d .count; clock = t; servers = servers }
 
 -- a refusal "changes no dispatcher"; its place is 0 in both moves
 abbrev pub refusing : {A : Type 0} → Dispatcher → ℕ → Moved A
-refusing d number = record { answer = refused number 0; dispatcher = d }
+refusing d number = leaving (refused number 0) d
 
 -- An arrival.
 
@@ -57,13 +45,13 @@ tooMuchWork d i cost = ltb mostWaiting (serverAt d i .waiting .ticks + cost .tic
 -- "A live arrival gives 6 (place 0) or 11, in that order." Otherwise it is accepted, and its server goes through step 1.
 unfoldable pub arrival : Dispatcher → ℕ → Length → Moved (Unit {0})
 arrival d i cost =
-    cond (faulty (d .count) i cost) (refusing d 6)
+    cond (faultyArrival (d .count) i cost) (refusing d 6)
     (cond (tooMuchWork d i cost) (refusing d 11)
-    (record { answer = accepted; dispatcher = withServer d i (arrived (serverAt d i) (d .clock) cost) }))
+    (leaving accepted (standing d (d .clock) (set (d .servers) i (arrived (serverAt d i) (d .clock) cost)))))
 
 -- what the struct that an arrival answers says
 abbrev pub arrivalSays : Arrived → Moved (Unit {0})
-arrivalSays r = record { answer = onPaper (r .answer); dispatcher = r .dispatcher }
+arrivalSays r = leaving (onPaper (r .answer)) (r .dispatcher)
 
 -- A tick.
 
@@ -72,13 +60,11 @@ pub data Turn : Type 0 where
   idled : Turn
   ranOne : (server : ℕ) (deadline : Moment) (postponed : Bool) → Turn
 
--- server i runs: step 3 at it, then step 4. The deadline is "the one in force before step 3".
+-- server i runs: step 3 at it, then step 4, "The clock is t + 1". The deadline is "the one in force before step 3".
 unfoldable pub ran : Dispatcher → ℕ → Moved Turn
 ran d i =
-    record {
-      answer = gave (ranOne i (serverAt d i .deadline) (spent (oneTickLess (serverAt d i))));
-      dispatcher = oneLater (withServer d i (served (serverAt d i)));
-    }
+    leaving (gave (ranOne i (serverAt d i .deadline) (spent (oneTickLess (serverAt d i)))))
+    (standing d (later (d .clock) (ticks 1)) (set (d .servers) i (served (serverAt d i))))
 
 -- 10: "a live tick when the clock stands at 2,419,200". Otherwise the server that step 2 picks runs; "If there is none, the tick is
 -- idle", and only step 4 is left.
@@ -86,7 +72,7 @@ unfoldable pub tick : Dispatcher → Moved Turn
 tick d =
     cond (eqb (d .clock .tick) clockEnd) (refusing d 10)
     (cond (ltb (picked d) (d .count)) (ran d (picked d))
-    (record { answer = gave idled; dispatcher = oneLater d }))
+    (leaving (gave idled) (standing d (later (d .clock) (ticks 1)) (d .servers))))
 
 -- what each case of a tick's answer says
 abbrev pub turnOf : TickAnswer → Said Turn
@@ -96,8 +82,8 @@ turnOf (Refused r) = refused (numberOf r) (placeOf r)
 
 -- what the struct that a tick answers says
 abbrev pub tickSays : Ticked → Moved Turn
-tickSays r = record { answer = turnOf (r .answer); dispatcher = r .dispatcher }
+tickSays r = leaving (turnOf (r .answer)) (r .dispatcher)
 
--- a move that is refused leaves d as it was
+-- a refused move leaves the dispatcher as it was
 abbrev pub LeavesRefused : {A : Type 0} → Dispatcher → Moved A → Type 0
 LeavesRefused d m = (number place : ℕ) → m .answer ≡ refused number place → m .dispatcher ≡ d

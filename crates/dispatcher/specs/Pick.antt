@@ -7,12 +7,12 @@ use mathlib.Core.Bool.{Bool, not, _&&_, _||_, true, false}
 use mathlib.Core.Path.{_≡_}
 use Rattle.counting.specs.Below.{every}
 use Rattle.counting.specs.First.{first}
-use Rattle.server.specs.Server.{blank, idle}
+use Rattle.server.specs.Server.{vacant, idle}
 use Rattle.server.specs.declared.Server.{Server}
 use Rattle.dispatcher.specs.declared.Dispatcher.{Dispatcher}
 
 abbrev pub serverAt : Dispatcher → ℕ → Server
-serverAt d i = getD (d .servers) i blank
+serverAt d i = getD (d .servers) i vacant
 
 -- server i has work, and no server with work has an earlier deadline
 unfoldable pub mayRun : Dispatcher → ℕ → Bool

@@ -4,7 +4,7 @@ use Prim.Native.Nat.{ℕ, _≤_, _<_}
 use lib.ListN.{length, getD}
 use mathlib.Core.Path.{_≡_}
 use Rattle.server.specs.Ranges.{Ranged}
-use Rattle.server.specs.Server.{blank}
+use Rattle.server.specs.Server.{vacant}
 use Rattle.sizes.specs.Sizes.{mostFrame, clockEnd, mostServers}
 use Rattle.dispatcher.specs.declared.Dispatcher.{Dispatcher}
 
@@ -16,5 +16,5 @@ pub record Within (d : Dispatcher) : Type 0 where
   pub count : d .count ≤ mostServers
   -- 64 places; each server's numbers within their ranges at this moment; every number behind the servers 0
   pub places : length (d .servers) ≡ mostServers
-  pub servers : (i : ℕ) → i < d .count → Ranged (d .clock) (getD (d .servers) i blank)
-  pub behind : (i : ℕ) → d .count ≤ i → getD (d .servers) i blank ≡ blank
+  pub servers : (i : ℕ) → i < d .count → Ranged (d .clock) (getD (d .servers) i vacant)
+  pub behind : (i : ℕ) → d .count ≤ i → getD (d .servers) i vacant ≡ vacant

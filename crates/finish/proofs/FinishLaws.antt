@@ -7,36 +7,38 @@ use mathlib.Core.Path.{_≡_, refl, sym, _∙_, subst}
 use native.Mathlib.Decide.{decLt}
 use native.Mathlib.Nat.{add-sub-of-le, not-suc-le-zero}
 use native.Mathlib.Omega.{arith}
+use Rattle.clock.specs.Clock.{moment}
+use Rattle.clock.specs.declared.Moment.{Moment}
 use Rattle.counting.proofs.FirstLaws.{first-is, first-none, first-more, first-passes}
 use Rattle.counting.specs.First.{first}
 use Rattle.history.proofs.ChoiceLaws.{served-start, served-step, served-more}
-use Rattle.history.specs.Choice.{History, served}
-use Rattle.finish.specs.Finish.{firstServed, isOpen, at, servedBy}
+use Rattle.history.specs.Choice.{History, ticksServed}
+use Rattle.finish.specs.Finish.{firstServed, isOpen, finishedAt, servedBy}
 
 -- Of server i and an amount of work.
 module _ (h : History) (i work : ℕ) where
   -- the ticks before an earlier moment are no more
-  served-to : (t u : ℕ) → t ≤ u → served h i t ≤ served h i u
-  served-to t u le = subst (λ (v : ℕ). served h i t ≤ served h i v) (add-sub-of-le le) (served-more h i t (u - t))
+  served-to : (t u : ℕ) → t ≤ u → ticksServed h i t ≤ ticksServed h i u
+  served-to t u le = subst (λ (v : ℕ). ticksServed h i t ≤ ticksServed h i v) (add-sub-of-le le) (served-more h i t (u - t))
 
   abbrev reached : ℕ → Bool
-  reached t = eqb (served h i t) work
+  reached t = eqb (ticksServed h i t) work
 
-  not-yet : (t u : ℕ) → u ≤ t → served h i t < work → reached u ≡ false
+  not-yet : (t u : ℕ) → u ≤ t → ticksServed h i t < work → reached u ≡ false
   not-yet t u le less =
-      ne-eqb (served h i u) work (λ (e : served h i u ≡ work). let no : ⊥ = omega (arith, served-to u t le) in absurd no)
+      ne-eqb (ticksServed h i u) work (λ (e : ticksServed h i u ≡ work). let no : ⊥ = omega (arith, served-to u t le) in absurd no)
 
   -- ticks come one at a time, so what is served by t was reached on the way
-  first-reached : (t : ℕ) → work ≤ served h i t → first (suc t) reached < suc t
+  first-reached : (t : ℕ) → work ≤ ticksServed h i t → first (suc t) reached < suc t
   first-reached zero b = rw here (omega arith)
     where
       here : first 1 reached ≡ 0
       here =
-          first-is 1 reached 0 (omega arith) (eq-eqb (served h i 0) work (omega (arith, served-start h i)))
+          first-is 1 reached 0 (omega arith) (eq-eqb (ticksServed h i 0) work (omega (arith, served-start h i)))
           (λ j q. absurd (not-suc-le-zero q))
-  first-reached (suc t) b = go (decLt (served h i t) work) (first-reached t)
+  first-reached (suc t) b = go (decLt (ticksServed h i t) work) (first-reached t)
     where
-      go : Dec (served h i t < work) → (work ≤ served h i t → first (suc t) reached < suc t)
+      go : Dec (ticksServed h i t < work) → (work ≤ ticksServed h i t → first (suc t) reached < suc t)
           → first (suc (suc t)) reached < suc (suc t)
       go (no more) before =
           let found : first (suc t) reached < suc t = before (omega arith) in
@@ -44,17 +46,17 @@ module _ (h : History) (i work : ℕ) where
       go (yes less) before =
           let here : first (suc (suc t)) reached ≡ suc t
           = first-is (suc (suc t)) reached (suc t) (omega arith)
-          (eq-eqb (served h i (suc t)) work (omega (arith, served-step h i t .1)))
+          (eq-eqb (ticksServed h i (suc t)) work (omega (arith, served-step h i t .1)))
           (λ j q. not-yet t j (omega arith) less) in
           omega arith
 
   -- never before
-  pub finish-open : (t : ℕ) → served h i t < work → servedBy h i work t ≡ isOpen
+  pub finish-open : (t : ℕ) → ticksServed h i t < work → servedBy h i work t ≡ isOpen
   unfolding servedBy firstServed
   finish-open t less = rw (first-none (suc t) reached (λ u b. not-yet t u (omega arith) less), lt-leb (suc t) t (omega arith))
 
   -- unchanged after
-  pub finish-stays : (t u : ℕ) → work ≤ served h i t → t ≤ u → servedBy h i work u ≡ servedBy h i work t
+  pub finish-stays : (t u : ℕ) → work ≤ ticksServed h i t → t ≤ u → servedBy h i work u ≡ servedBy h i work t
   unfolding servedBy firstServed
   finish-stays t u more le =
       let found : first (suc t) reached < suc t = first-reached t more in
@@ -62,41 +64,41 @@ module _ (h : History) (i work : ℕ) where
       rw (stays, le-leb (first (suc t) reached) t (omega arith), le-leb (first (suc t) reached) u (omega arith))
 
   -- and at that very moment: the tick before u was not yet enough
-  pub finish-now : (u : ℕ) → served h i u < work → served h i (suc u) ≡ work → servedBy h i work (suc u) ≡ at (suc u)
+  pub finish-now : (u : ℕ) → ticksServed h i u < work → ticksServed h i (suc u) ≡ work → servedBy h i work (suc u) ≡ finishedAt (moment (suc u))
   unfolding servedBy firstServed
   finish-now u less e =
       let here : first (suc (suc u)) reached ≡ suc u
-      = first-is (suc (suc u)) reached (suc u) (omega arith) (eq-eqb (served h i (suc u)) work e) (λ j q. not-yet u j (omega arith) less) in
+      = first-is (suc (suc u)) reached (suc u) (omega arith) (eq-eqb (ticksServed h i (suc u)) work e) (λ j q. not-yet u j (omega arith) less) in
       rw (here, le-leb (suc u) (suc u) (omega arith))
 
   -- while the server is not served
-  pub finish-unserved : (t u : ℕ) → t ≤ u → served h i u ≡ served h i t → servedBy h i work u ≡ servedBy h i work t
-  finish-unserved t u le e = go (decLt (served h i t) work)
+  pub finish-unserved : (t u : ℕ) → t ≤ u → ticksServed h i u ≡ ticksServed h i t → servedBy h i work u ≡ servedBy h i work t
+  finish-unserved t u le e = go (decLt (ticksServed h i t) work)
     where
-      go : Dec (served h i t < work) → servedBy h i work u ≡ servedBy h i work t
+      go : Dec (ticksServed h i t < work) → servedBy h i work u ≡ servedBy h i work t
       go (yes less) = finish-open u (omega arith) ∙ sym (finish-open t less)
       go (no more) = finish-stays t u (omega arith) le
 
   -- what has finished at t has its work served by t
-  finish-served : (N t : ℕ) → servedBy h i work N ≡ at t → served h i t ≡ work
+  finish-served : (N t : ℕ) → servedBy h i work N ≡ finishedAt (moment t) → ticksServed h i t ≡ work
   unfolding servedBy firstServed
   finish-served N t e = go (leb (first (suc N) reached) N) refl
     where
-      go : (b : Bool) → leb (first (suc N) reached) N ≡ b → served h i t ≡ work
+      go : (b : Bool) → leb (first (suc N) reached) N ≡ b → ticksServed h i t ≡ work
       go true l =
           let found : first (suc N) reached < suc N = omega (arith, leb-true (first (suc N) reached) N l) in
-          let same : at (first (suc N) reached) ≡ at t = subst (λ (b : Bool). cond b (at (first (suc N) reached)) isOpen ≡ at t) l e in
-          let moment : first (suc N) reached ≡ t = cc in
-          subst (λ (u : ℕ). served h i u ≡ work) moment
-          (eqb-true (served h i (first (suc N) reached)) work (first-passes (suc N) reached found))
+          let same : finishedAt (moment (first (suc N) reached)) ≡ finishedAt (moment t) = subst (λ (b : Bool). cond b (finishedAt (moment (first (suc N) reached))) isOpen ≡ finishedAt (moment t)) l e in
+          let at-t : moment (first (suc N) reached) ≡ moment t = cc in
+          subst (λ (u : Moment). ticksServed h i (u .tick) ≡ work) at-t
+          (eqb-true (ticksServed h i (first (suc N) reached)) work (first-passes (suc N) reached found))
       go false l =
-          let never : isOpen ≡ at t = subst (λ (b : Bool). cond b (at (first (suc N) reached)) isOpen ≡ at t) l e in
+          let never : isOpen ≡ finishedAt (moment t) = subst (λ (b : Bool). cond b (finishedAt (moment (first (suc N) reached))) isOpen ≡ finishedAt (moment t)) l e in
           let none : _≡_ {A = ℕ} 0 1 = cc in
           let no : ⊥ = omega arith in
           absurd no
 
   -- so it finishes after every moment by which less was served
-  pub finish-after : (N t u : ℕ) → servedBy h i work N ≡ at t → served h i u < work → u < t
+  pub finish-after : (N t u : ℕ) → servedBy h i work N ≡ finishedAt (moment t) → ticksServed h i u < work → u < t
   finish-after N t u e less = go (decLt u t)
     where
       go : Dec (u < t) → u < t
@@ -104,5 +106,5 @@ module _ (h : History) (i work : ℕ) where
       go (no l) = let no : ⊥ = omega (arith, finish-served N t e, served-to t u (omega arith)) in absurd no
 
   -- "Zero is never a finish."
-  pub finish-not-zero : (N t : ℕ) → 0 < work → servedBy h i work N ≡ at t → 0 < t
+  pub finish-not-zero : (N t : ℕ) → 0 < work → servedBy h i work N ≡ finishedAt (moment t) → 0 < t
   finish-not-zero N t some e = finish-after N t 0 e (omega (arith, served-start h i))

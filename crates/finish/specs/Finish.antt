@@ -6,10 +6,12 @@ use lib.Dec.{eqb, leb, ltb}
 use lib.ListN.{length, getD}
 use mathlib.Core.Bool.{cond}
 use mathlib.Core.List.{List}
+use Rattle.clock.specs.Clock.{moment}
+use Rattle.clock.specs.declared.Moment.{Moment}
 use Rattle.counting.specs.First.{first}
 use Rattle.counting.specs.Places.{places}
 use Rattle.counting.specs.Sum.{sum}
-use Rattle.history.specs.Choice.{History, served}
+use Rattle.history.specs.Choice.{History, ticksServed}
 use Rattle.sizes.specs.Sizes.{openJob}
 use Rattle.workfile.specs.Work.{Work}
 
@@ -24,29 +26,29 @@ workOf w i k = sum k (costFor w i)
 -- a job is open, or has finished at a moment
 pub data Finish : Type 0 where
   isOpen : Finish
-  at : (t : ℕ) → Finish
+  finishedAt : (t : Moment) → Finish
 
 -- "the first moment when the ticks served to that server equal" so much work; N + 1 where there is none to N
 unfoldable pub firstServed : History → ℕ → ℕ → ℕ → ℕ
-firstServed h i work N = first (suc N) (λ t. eqb (served h i t) work)
+firstServed h i work N = first (suc N) (λ t. eqb (ticksServed h i t) work)
 
 -- "The run stops at moment N; a job not finished by then is open."
 unfoldable pub servedBy : History → ℕ → ℕ → ℕ → Finish
-servedBy h i work N = cond (leb (firstServed h i work N) N) (at (firstServed h i work N)) isOpen
+servedBy h i work N = cond (leb (firstServed h i work N) N) (finishedAt (moment (firstServed h i work N))) isOpen
 
 -- the finish of job k: the work is "the sum of costs of its jobs up to k"
 abbrev pub finish : Work → History → ℕ → ℕ → Finish
 finish w h N k = servedBy h (w .arrival k .server) (workOf w (w .arrival k .server) (suc k)) N
 
 -- "holds at place k the finish moment of arrival k, or 4,294,967,295 for an open job"
-abbrev pub shown : Finish → ℕ
-shown isOpen = openJob
-shown (at t) = t
+abbrev pub finishNumber : Finish → ℕ
+finishNumber isOpen = openJob
+finishNumber (finishedAt t) = t .tick
 
 -- and the finish that such a number tells
 abbrev pub finishOf : ℕ → Finish
-finishOf n = cond (eqb n openJob) isOpen (at n)
+finishOf n = cond (eqb n openJob) isOpen (finishedAt (moment n))
 
 -- the lent finish list after a run with m arrivals: "Places from m on are untouched."
 unfoldable pub finishList : ℕ → (ℕ → Finish) → List ℕ → List ℕ
-finishList m f list = places (length list) (λ k. cond (ltb k m) (shown (f k)) (getD list k 0))
+finishList m f list = places (length list) (λ k. cond (ltb k m) (finishNumber (f k)) (getD list k 0))

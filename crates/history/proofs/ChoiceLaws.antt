@@ -9,7 +9,7 @@ use Rattle.clock.specs.declared.Moment.{Moment}
 use Rattle.counting.proofs.CountLaws.{count-all, count-more, count-none, count-step}
 use Rattle.counting.proofs.TestLaws.{and-left, and-right, and-both}
 use Rattle.counting.specs.Count.{count}
-use Rattle.history.specs.Choice.{Choice, nobody, given, History, same, isFor, served}
+use Rattle.history.specs.Choice.{Choice, nobody, given, History, same, isFor, ticksServed}
 
 pub same-refl : (x : Choice) → same x x ≡ true
 unfolding same
@@ -51,26 +51,26 @@ given-deadline e = ap deadlineOf e
 
 -- Of a stretch of k ticks from t on that are all given to server i.
 module _ (h : History) (i : ℕ) where
-  pub served-start : served h i 0 ≡ 0
-  unfolding served count
+  pub served-start : ticksServed h i 0 ≡ 0
+  unfolding ticksServed count
   served-start = refl
 
-  pub served-step : (t : ℕ) → (served h i t ≤ served h i (suc t)) × (served h i (suc t) ≤ served h i t + 1)
-  unfolding served
+  pub served-step : (t : ℕ) → (ticksServed h i t ≤ ticksServed h i (suc t)) × (ticksServed h i (suc t) ≤ ticksServed h i t + 1)
+  unfolding ticksServed
   served-step t = count-step t (λ u. isFor i (h u))
 
-  pub served-more : (t k : ℕ) → served h i t ≤ served h i (t + k)
-  unfolding served
+  pub served-more : (t k : ℕ) → ticksServed h i t ≤ ticksServed h i (t + k)
+  unfolding ticksServed
   served-more t k = count-more t k (λ u. isFor i (h u))
 
-  pub served-own : (t k : ℕ) (d : Moment) → ((q : ℕ) → q < k → h (t + q) ≡ given i d) → served h i (t + k) ≡ served h i t + k
-  unfolding served isFor
+  pub served-own : (t k : ℕ) (d : Moment) → ((q : ℕ) → q < k → h (t + q) ≡ given i d) → ticksServed h i (t + k) ≡ ticksServed h i t + k
+  unfolding ticksServed isFor
   served-own t k d all = count-all t k (λ u. isFor i (h u)) (λ q b. ap (isFor i) (all q b) ∙ eq-eqb i i refl)
 
   -- and that are all given to another, or to nobody
   pub served-other : (t k : ℕ) (x : Choice) → isFor i x ≡ false → ((q : ℕ) → q < k → h (t + q) ≡ x)
-      → served h i (t + k) ≡ served h i t
-  unfolding served
+      → ticksServed h i (t + k) ≡ ticksServed h i t
+  unfolding ticksServed
   served-other t k x away all = count-none t k (λ u. isFor i (h u)) (λ q b. ap (isFor i) (all q b) ∙ away)
 
 pub for-other : (i j : ℕ) (d : Moment) → (i ≡ j → ⊥) → isFor i (given j d) ≡ false

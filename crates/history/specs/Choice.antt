@@ -26,5 +26,5 @@ isFor i nobody = false
 isFor i (given j d) = eqb i j
 
 -- "the ticks served to that server" before moment t
-unfoldable pub served : History → ℕ → ℕ → ℕ
-served h i t = count t (λ u. isFor i (h u))
+unfoldable pub ticksServed : History → ℕ → ℕ → ℕ
+ticksServed h i t = count t (λ u. isFor i (h u))

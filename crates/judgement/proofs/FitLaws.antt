@@ -10,7 +10,7 @@ use mathlib.Core.Path.{_≡_}
 use native.Mathlib.Nat.{le-refl, le-trans, eq-or-lt-of-le, le-of-suc-le-suc, not-suc-le-zero}
 use native.Mathlib.Omega.{arith}
 use Rattle.arrival.proofs.ArrivalLaws.{Sound, sound}
-use Rattle.arrival.specs.Arrival.{faulty}
+use Rattle.arrival.specs.Arrival.{faultyArrival}
 use Rattle.booking.proofs.AdmissionLaws.{Admitted, admitted}
 use Rattle.booking.specs.Admission.{admission}
 use Rattle.counting.proofs.BelowLaws.{below-suc}
@@ -55,10 +55,10 @@ module _ (w : Work) where
 
   -- and passed the three tests
   tests-passed : (k : ℕ) → arrivalJudged w k ≡ accepted
-      → (faulty (w .table .count) (w .arrival k .server) (w .arrival k .cost) ≡ false) × (backward w k ≡ false) × (late w k ≡ false)
+      → (faultyArrival (w .table .count) (w .arrival k .server) (w .arrival k .cost) ≡ false) × (backward w k ≡ false) × (late w k ≡ false)
   unfolding arrivalJudged
   tests-passed k e =
-      let six = accepted-test 6 k (faulty (w .table .count) (w .arrival k .server) (w .arrival k .cost)) _ e in
+      let six = accepted-test 6 k (faultyArrival (w .table .count) (w .arrival k .server) (w .arrival k .cost)) _ e in
       let seven = accepted-test 7 k (backward w k) _ (six .1) in
       let eight = accepted-test 8 k (late w k) _ (seven .1) in
       (six .0, seven .0, eight .0)

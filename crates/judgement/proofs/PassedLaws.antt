@@ -6,7 +6,7 @@ use mathlib.Core.Bool.{true, false}
 use mathlib.Core.Logic.{⊎-elim}
 use mathlib.Core.Path.{_≡_, refl, sym, _∙_, ap}
 use native.Mathlib.Nat.{eq-or-lt-of-le, le-of-suc-le-suc, not-suc-le-zero}
-use Rattle.arrival.specs.Arrival.{faulty}
+use Rattle.arrival.specs.Arrival.{faultyArrival}
 use Rattle.arrival.specs.declared.Arrival.{Arrival}
 use Rattle.refusal.specs.Refusals.{refused, accepted}
 use Rattle.workfile.specs.Work.{Work}
@@ -47,7 +47,7 @@ module _ (w : Work) where
     in-order : before ≤ a .moment .tick → backward w k ≡ false
     in-order h = backward-is k ∙ le-ltb _ _ (rw (s .before-is, read) at h)
 
-    pub passed-more : faulty (w .table .count) (a .server) (a .cost) ≡ false → before ≤ a .moment .tick
+    pub passed-more : faultyArrival (w .table .count) (a .server) (a .cost) ≡ false → before ≤ a .moment .tick
         → a .moment .tick < w .horizon .tick → Passed (suc k) (a .moment .tick)
     unfolding arrivalJudged arrivalsJudged
     passed-more e h l =
@@ -60,16 +60,16 @@ module _ (w : Work) where
       list-refused : (n : ℕ) → arrivalJudged w k ≡ refused n k → listJudged w places ≡ refused n k
       list-refused n r = rw (refused-at k (w .arrivals) n k (s .judged) more r)
 
-      pub passed-faulty : faulty (w .table .count) (a .server) (a .cost) ≡ true → listJudged w places ≡ refused 6 k
+      pub passed-faulty : faultyArrival (w .table .count) (a .server) (a .cost) ≡ true → listJudged w places ≡ refused 6 k
       unfolding arrivalJudged
       passed-faulty e = list-refused 6 (rw (rw read at e))
 
-      pub passed-backward : faulty (w .table .count) (a .server) (a .cost) ≡ false → a .moment .tick < before
+      pub passed-backward : faultyArrival (w .table .count) (a .server) (a .cost) ≡ false → a .moment .tick < before
           → listJudged w places ≡ refused 7 k
       unfolding arrivalJudged
       passed-backward e h = list-refused 7 (rw (rw read at e, backward-is k, lt-ltb _ _ (rw (s .before-is, read) at h)))
 
-      pub passed-late : faulty (w .table .count) (a .server) (a .cost) ≡ false → before ≤ a .moment .tick
+      pub passed-late : faultyArrival (w .table .count) (a .server) (a .cost) ≡ false → before ≤ a .moment .tick
           → w .horizon .tick ≤ a .moment .tick → listJudged w places ≡ refused 8 k
       unfolding arrivalJudged
       passed-late e h l = list-refused 8 (rw (rw read at e, in-order h, le-leb _ _ (rw read at l)))

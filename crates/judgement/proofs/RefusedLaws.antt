@@ -7,9 +7,9 @@ use mathlib.Core.List.{List}
 use mathlib.Core.Path.{_≡_, refl}
 use native.Mathlib.Nat.{le-trans}
 use native.Mathlib.Omega.{arith}
-use Rattle.arrival.specs.Arrival.{faulty}
+use Rattle.arrival.specs.Arrival.{faultyArrival}
 use Rattle.booking.specs.Admission.{Table, firstFaulty, shares, admission}
-use Rattle.booking.specs.Share.{faulty as faultyBooking}
+use Rattle.booking.specs.Share.{faultyBooking}
 use Rattle.clock.specs.declared.Length.{Length}
 use Rattle.counting.proofs.FirstLaws.{first-le}
 use Rattle.refusal.specs.Refusals.{Said, refused, gave, accepted, andThen}
@@ -44,7 +44,7 @@ module _ (w : Work) where
   arrival-listed : (k : ℕ) → k ≤ mostArrivals → Listed (arrivalJudged w k)
   unfolding arrivalJudged
   arrival-listed k le =
-      test-listed 6 k (faulty (w .table .count) (w .arrival k .server) (w .arrival k .cost)) _ (omega arith) le
+      test-listed 6 k (faultyArrival (w .table .count) (w .arrival k .server) (w .arrival k .cost)) _ (omega arith) le
       (λ e. test-listed 7 k (backward w k) _ (omega arith) le
       (λ e. test-listed 8 k (late w k) accepted (omega arith) le (λ e. accepted-listed)))
 

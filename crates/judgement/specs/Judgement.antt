@@ -5,7 +5,7 @@ use lib.Dec.{leb, ltb}
 use lib.ListN.{length}
 use mathlib.Core.Bool.{Bool, false, cond, _||_}
 use mathlib.Core.List.{List}
-use Rattle.arrival.specs.Arrival.{faulty}
+use Rattle.arrival.specs.Arrival.{faultyArrival}
 use Rattle.booking.specs.Admission.{admission}
 use Rattle.refusal.specs.Refusals.{Said, refused, accepted, andThen, gave}
 use Rattle.sizes.specs.Sizes.{arrivalBytes, clockEnd, headerBytes, mostArrivals, mostFile, mostFrame, mostServers, serverBytes}
@@ -46,7 +46,7 @@ late w k = leb (w .horizon .tick) (w .arrival k .moment .tick)
 -- arrival k by 6, 7, 8
 unfoldable pub arrivalJudged : Work → ℕ → Said (Unit {0})
 arrivalJudged w k =
-    cond (faulty (w .table .count) (w .arrival k .server) (w .arrival k .cost)) (refused 6 k)
+    cond (faultyArrival (w .table .count) (w .arrival k .server) (w .arrival k .cost)) (refused 6 k)
     (cond (backward w k) (refused 7 k)
     (cond (late w k) (refused 8 k) accepted))
 

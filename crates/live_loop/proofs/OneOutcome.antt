@@ -1,20 +1,20 @@
 -- Each promise of this crate allows one outcome: what is said on paper tells the answer, and the dispatcher that is left is given whole.
 use Rattle.walks.specs.OneOutcome.{Claim, Gives, OneOutcomeLentWalked}
 use Rattle.walks.proofs.Steps.{both-said}
-use Rattle.live_loop.specs.Lent.{ArrivalLeaves, TickLeaves}
+use Rattle.live_loop.specs.TwoForms.{ArrivalGives, TickGives}
 use Rattle.live_loop.proofs.TwoFormsLaws.{arrival-agrees, tick-agrees}
 use Rattle.live_loop.proofs.arrival as arrival
 use Rattle.live_loop.proofs.tick as tick
 
 -- what each contract gives, of the dispatcher that is lent, the answer and the dispatcher that is left
 abbrev pub ArrivalClaim : Claim arrival.ended
-ArrivalClaim κs a r e = ArrivalLeaves (a .0 .now) (a .1 .0) (a .1 .1 .0) r (e .0 .now)
+ArrivalClaim κs a r e = ArrivalGives (a .0 .now) (a .1 .0) (a .1 .1 .0) r (e .0 .now)
 
 pub arrival-gives : Gives arrival.ended (λ M. arrival.clauses) ArrivalClaim
 arrival-gives M 𝓤 H A mem run κs a g r e = both-said 𝓤 _ _
 
 abbrev pub TickClaim : Claim tick.ended
-TickClaim κs a r e = TickLeaves (a .0 .now) r (e .0 .now)
+TickClaim κs a r e = TickGives (a .0 .now) r (e .0 .now)
 
 pub tick-gives : Gives tick.ended (λ M. tick.clauses) TickClaim
 tick-gives M 𝓤 H A mem run κs a g r e = both-said 𝓤 _ _
@@ -26,7 +26,7 @@ arrival-one = (
   (
     arrival-gives,
     (λ κs a x y at-x at-y p q.
-        arrival-agrees (a .0 .now) (a .1 .0) (a .1 .1 .0) (record { answer = x; dispatcher = at-x .0 .now }) y (at-y .0 .now) p q),
+        arrival-agrees (a .0 .now) (a .1 .0) (a .1 .1 .0) x y (at-x .0 .now) (at-y .0 .now) p q),
   ),
 )
 
@@ -36,6 +36,6 @@ tick-one = (
   (
     tick-gives,
     (λ κs a x y at-x at-y p q.
-        tick-agrees (a .0 .now) (record { answer = x; dispatcher = at-x .0 .now }) y (at-y .0 .now) p q),
+        tick-agrees (a .0 .now) x y (at-x .0 .now) (at-y .0 .now) p q),
   ),
 )

@@ -1,13 +1,27 @@
 -- "The live loop keeps one dispatcher and lends it to each move, which alters it there; the same moves exist on a dispatcher passed and
--- handed back." (document 01) The two forms agree, in one move and in any course of moves, since their promises say the same.
+-- handed back." (document 01) Both forms of a move promise the same of its answer and of the dispatcher after it, the one that is handed
+-- back or the one that is left.
+use Prim.Native.Nat.{ℕ}
 use mathlib.Core.List.{List, [], _∷_}
 use mathlib.Core.Path.{_≡_}
+use Rattle.clock.specs.declared.Length.{Length}
 use Rattle.dispatcher.specs.Course.{Move, anArrival, aTick}
+use Rattle.dispatcher.specs.Moves.{leaving, arrival, turnOf, tick}
 use Rattle.dispatcher.specs.Within.{Within}
 use Rattle.dispatcher.specs.declared.Dispatcher.{Dispatcher}
 use Rattle.dispatcher.specs.declared.TickAnswer.{TickAnswer}
+use Rattle.refusal.specs.Refusals.{onPaper}
 use Rattle.refusal.specs.declared.Verdict.{Verdict}
-use Rattle.live_loop.specs.Lent.{ArrivalLeaves, ArrivalHands, TickLeaves, TickHands}
+
+-- what an arrival at d may answer, and the dispatcher e after it, in either form
+abbrev pub ArrivalGives : Dispatcher → ℕ → Length → Verdict → Dispatcher → Type 0
+ArrivalGives d server cost answer e = (leaving (onPaper answer) e ≡ arrival d server cost) × Within e
+
+-- a tick, likewise
+abbrev pub TickGives : Dispatcher → TickAnswer → Dispatcher → Type 0
+TickGives d answer e = (leaving (turnOf answer) e ≡ tick d) × Within e
+
+-- A course of moves.
 
 abbrev pub AnswerTo : Move → Type 0
 AnswerTo (anArrival server cost) = Verdict
@@ -18,21 +32,12 @@ abbrev pub Answers : List Move → Type 0
 Answers [] = Unit {0}
 Answers (m ∷ moves) = AnswerTo m × Answers moves
 
--- what a form of the moves allows: a dispatcher, a move on it, its answer, and the dispatcher after it
-abbrev pub Allows : Type 1
-Allows = (d : Dispatcher) (m : Move) → AnswerTo m → Dispatcher → Type 0
+-- one move by its promise, whose premise is `Within`
+abbrev pub MoveGives : Dispatcher → (m : Move) → AnswerTo m → Dispatcher → Type 0
+MoveGives d (anArrival server cost) answer e = Within d → ArrivalGives d server cost answer e
+MoveGives d aTick answer e = Within d → TickGives d answer e
 
--- by the contracts of the moves by value
-abbrev pub byValue : Allows
-byValue d (anArrival server cost) answer e = Within d → ArrivalHands d server cost (record { answer = answer; dispatcher = e })
-byValue d aTick answer e = Within d → TickHands d (record { answer = answer; dispatcher = e })
-
--- and by those of the lent ones
-abbrev pub lent : Allows
-lent d (anArrival server cost) answer e = Within d → ArrivalLeaves d server cost answer e
-lent d aTick answer e = Within d → TickLeaves d answer e
-
--- the answers to a course of moves, and the dispatcher in the end, where a form allows every move
-unfoldable pub Played : Allows → Dispatcher → (moves : List Move) → Answers moves → Dispatcher → Type 0
-Played allowed d [] answers end = end ≡ d
-Played allowed d (m ∷ moves) answers end = (e : Dispatcher) × allowed d m (answers .0) e × Played allowed e moves (answers .1) end
+-- the answers to a course of moves, each made in either form, and the dispatcher in the end
+unfoldable pub Played : Dispatcher → (moves : List Move) → Answers moves → Dispatcher → Type 0
+Played d [] answers end = end ≡ d
+Played d (m ∷ moves) answers end = (e : Dispatcher) × MoveGives d m (answers .0) e × Played e moves (answers .1) end

@@ -2,10 +2,9 @@
 // lends it to every move. Each is thin over the move of crate `dispatcher` that takes the dispatcher by value and hands it back, and
 // has the same one premise, which it keeps.
 ghost use mathlib.Core.Path.{_≡_};
-ghost use Rattle.dispatcher.specs.Moves.{arrival, tick, turnOf};
+ghost use Rattle.dispatcher.specs.Moves.{leaving, arrival, tick, turnOf};
 ghost use Rattle.dispatcher.specs.Within.{Within};
 ghost use Rattle.refusal.specs.Refusals.{onPaper};
-ghost use Rattle.live_loop.specs.Lent.{leaving};
 use clock::Length;
 use dispatcher::Dispatcher;
 use dispatcher::TickAnswer;

@@ -5,10 +5,9 @@ use mathlib.Core.Path.{_≡_, refl, sym, ap, subst⁻¹}
 use native.Mathlib.Numerals.{add-one}
 use native.Mathlib.Omega.{arith}
 use Rattle.dispatcher.proofs.MoveLaws.{tick-within}
-use Rattle.dispatcher.specs.Moves.{Moved, Turn, idled, ranOne, tick}
+use Rattle.dispatcher.specs.Moves.{leaving, Moved, Turn, idled, ranOne, tick}
 use Rattle.dispatcher.specs.Within.{Within}
 use Rattle.dispatcher.specs.declared.Dispatcher.{Dispatcher}
-use Rattle.live_loop.specs.Lent.{leaving}
 use Rattle.refusal.specs.Refusals.{Said, refused, gave}
 use Rattle.live_ticks.specs.declared.tally.Tallied.{Tallied}
 use Rattle.live_ticks.specs.declared.tally.Tally.{Tally}

@@ -6,7 +6,7 @@ use mathlib.Core.Bool.{Bool, true, false}
 use mathlib.Core.Path.{_≡_, refl, sym, _∙_, ap}
 use native.Mathlib.Nat.{add-suc, add-zero, add-sub-of-le}
 use native.Mathlib.Omega.{arith}
-use Rattle.arrival.specs.Arrival.{faulty}
+use Rattle.arrival.specs.Arrival.{faultyArrival}
 use Rattle.clock.specs.Clock.{moment}
 use Rattle.clock.specs.declared.Length.{Length}
 use Rattle.clock.specs.declared.Moment.{Moment}
@@ -26,9 +26,9 @@ use Rattle.moments.specs.Moments.{taken, atMoment}
 module _ (d : Dispatcher) (i : ℕ) (cost : Length) where
   pub arrival-keeps : (arrival d i cost .dispatcher .clock ≡ d .clock) × (arrival d i cost .dispatcher .count ≡ d .count)
   unfolding arrival
-  arrival-keeps = go (faulty (d .count) i cost) refl (tooMuchWork d i cost) refl
+  arrival-keeps = go (faultyArrival (d .count) i cost) refl (tooMuchWork d i cost) refl
     where
-      go : (f : Bool) → faulty (d .count) i cost ≡ f → (o : Bool) → tooMuchWork d i cost ≡ o
+      go : (f : Bool) → faultyArrival (d .count) i cost ≡ f → (o : Bool) → tooMuchWork d i cost ≡ o
           → (arrival d i cost .dispatcher .clock ≡ d .clock) × (arrival d i cost .dispatcher .count ≡ d .count)
       go true f o e = (rw f, rw f)
       go false f true e = (rw (f, e), rw (f, e))

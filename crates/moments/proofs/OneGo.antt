@@ -4,21 +4,16 @@ use Prim.Native.Nat.{ℕ, _-_}
 use lib.ListN.{set}
 use mathlib.Core.Bool.{cond}
 use Rattle.clock.specs.Clock.{later, ticks}
+use Rattle.dispatcher.specs.Moves.{standing}
 use Rattle.dispatcher.specs.Pick.{serverAt}
 use Rattle.dispatcher.specs.declared.Dispatcher.{Dispatcher}
 use Rattle.server.specs.Moves.{postponed, spent}
+use Rattle.server.specs.Server.{holding}
 use Rattle.server.specs.declared.Server.{Server}
 
 -- k ticks less to spend and to do
 abbrev pub lessBy : Server → ℕ → Server
-lessBy s k =
-    record {
-      budget = s .budget;
-      period = s .period;
-      remaining = ticks (s .remaining .ticks - k);
-      deadline = s .deadline;
-      waiting = ticks (s .waiting .ticks - k);
-    }
+lessBy s k = holding s (ticks (s .remaining .ticks - k)) (s .deadline) (ticks (s .waiting .ticks - k))
 
 -- and postponed where that spends the budget
 unfoldable pub servedFor : Server → ℕ → Server
@@ -26,19 +21,7 @@ servedFor s k = cond (spent (lessBy s k)) (postponed (lessBy s k)) (lessBy s k)
 
 -- the dispatcher k ticks later, with or without one server's work
 abbrev pub laterBy : Dispatcher → ℕ → Dispatcher
-laterBy d k =
-    record {
-      frame = d .frame;
-      count = d .count;
-      clock = later (d .clock) (ticks k);
-      servers = d .servers;
-    }
+laterBy d k = standing d (later (d .clock) (ticks k)) (d .servers)
 
 abbrev pub ranFor : Dispatcher → ℕ → ℕ → Dispatcher
-ranFor d i k =
-    record {
-      frame = d .frame;
-      count = d .count;
-      clock = later (d .clock) (ticks k);
-      servers = set (d .servers) i (servedFor (serverAt d i) k);
-    }
+ranFor d i k = standing d (later (d .clock) (ticks k)) (set (d .servers) i (servedFor (serverAt d i) k))

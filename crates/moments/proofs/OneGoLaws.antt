@@ -10,16 +10,16 @@ use mathlib.Core.Path.{_≡_, refl, sym, _∙_, ap, ap₂, subst, subst⁻¹}
 use native.Mathlib.Decide.{ℕ-discrete}
 use native.Mathlib.Nat.{add-suc, add-zero, sub-zero}
 use native.Mathlib.Omega.{arith}
-use Rattle.clock.specs.Clock.{moment, ticks}
+use Rattle.clock.specs.Clock.{later, moment, ticks}
 use Rattle.dispatcher.proofs.MoveLaws.{tick-ran, tick-idle}
 use Rattle.dispatcher.proofs.PickLaws.{earliest-picked, none-picked}
-use Rattle.dispatcher.specs.Moves.{Moved, Turn, idled, ranOne, ran, tick, oneLater, withServer}
+use Rattle.dispatcher.specs.Moves.{Moved, leaving, standing, Turn, idled, ranOne, ran, tick}
 use Rattle.dispatcher.specs.Pick.{serverAt, picked, Earliest, NoneWorks}
 use Rattle.dispatcher.specs.Within.{Within}
 use Rattle.dispatcher.specs.declared.Dispatcher.{Dispatcher}
 use Rattle.refusal.specs.Refusals.{Said, gave}
 use Rattle.server.specs.Moves.{oneTickLess, postponed, served, spent}
-use Rattle.server.specs.Server.{blank, idle}
+use Rattle.server.specs.Server.{holding, vacant, idle}
 use Rattle.server.specs.declared.Server.{Server}
 use Rattle.sizes.specs.Sizes.{clockEnd}
 use Rattle.workfile.specs.Work.{Work}
@@ -57,7 +57,7 @@ module _ (s : Server) where
 
   one-less : (k : ℕ) → oneTickLess (lessBy s k) ≡ lessBy s (suc k)
   one-less k =
-      ap₂ (λ (c w : ℕ). record { budget = s .budget; period = s .period; remaining = ticks c; deadline = s .deadline; waiting = ticks w })
+      ap₂ (λ (c w : ℕ). holding s (ticks c) (s .deadline) (ticks w))
       budget-less work-less
     where
       budget-less : s .remaining .ticks - k - 1 ≡ s .remaining .ticks - suc k
@@ -79,16 +79,16 @@ module _ (d : Dispatcher) (i : ℕ) (ok : Within d) (p : Earliest d (d .count) i
 
   pub ran-none : 0 < serverAt d i .remaining .ticks → ranFor d i 0 ≡ d
   ran-none c =
-      ap₂ (λ (t : ℕ) (l : List Server). record { frame = d .frame; count = d .count; clock = moment t; servers = l })
+      ap₂ (λ (t : ℕ) (l : List Server). standing d (moment t) l)
       (add-zero (d .clock .tick))
-      (ap (set (d .servers) i) (served-less (serverAt d i) 0 c ∙ less-none (serverAt d i)) ∙ set-getD (d .servers) i blank)
+      (ap (set (d .servers) i) (served-less (serverAt d i) 0 c ∙ less-none (serverAt d i)) ∙ set-getD (d .servers) i vacant)
 
   own : (k : ℕ) → k < serverAt d i .remaining .ticks → serverAt (ranFor d i k) i ≡ lessBy (serverAt d i) k
   own k c =
-      getD-set-same (d .servers) i (servedFor (serverAt d i) k) blank here ∙ served-less (serverAt d i) k c
+      getD-set-same (d .servers) i (servedFor (serverAt d i) k) vacant here ∙ served-less (serverAt d i) k c
 
   pub other : (k j : ℕ) → (j ≡ i → ⊥) → serverAt (ranFor d i k) j ≡ serverAt d j
-  other k j n = getD-set-other (d .servers) i j (servedFor (serverAt d i) k) blank n
+  other k j n = getD-set-other (d .servers) i j (servedFor (serverAt d i) k) vacant n
 
   -- the pick stays: it depends on who has work and on the deadlines
   still-earliest : (k : ℕ) → k < serverAt d i .remaining .ticks → k < serverAt d i .waiting .ticks
@@ -140,12 +140,12 @@ module _ (d : Dispatcher) (i : ℕ) (ok : Within d) (p : Earliest d (d .count) i
           ap (λ (s : Server). gave (ranOne i (s .deadline) (spent (oneTickLess s)))) (own k c)
           ∙ ap (λ (s : Server). gave (ranOne i (s .deadline) (spent s))) (one-less (serverAt d i) k)
 
-      moved : oneLater (withServer (ranFor d i k) i (served (serverAt (ranFor d i k) i))) ≡ ranFor d i (suc k)
+      moved : standing (ranFor d i k) (later (ranFor d i k .clock) (ticks 1)) (set (ranFor d i k .servers) i (served (serverAt (ranFor d i k) i))) ≡ ranFor d i (suc k)
       moved =
-          ap₂ (λ (t : ℕ) (l : List Server). record { frame = d .frame; count = d .count; clock = moment t; servers = l })
+          ap₂ (λ (t : ℕ) (l : List Server). standing d (moment t) l)
           clock-more
           (set-set (d .servers) i (servedFor (serverAt d i) k) (served (serverAt (ranFor d i k) i))
-          ∙ ap (λ (s : Server). set (d .servers) i (served s)) (getD-set-same (d .servers) i (servedFor (serverAt d i) k) blank here)
+          ∙ ap (λ (s : Server). set (d .servers) i (served s)) (getD-set-same (d .servers) i (servedFor (serverAt d i) k) vacant here)
           ∙ ap (set (d .servers) i) (served-once-more (serverAt d i) k c))
         where
           clock-more : d .clock .tick + k + 1 ≡ d .clock .tick + suc k
@@ -156,7 +156,7 @@ pub tick-same-idle : (d : Dispatcher) (k : ℕ) → NoneWorks d (d .count) → d
     → tick (laterBy d k) ≡ record { answer = gave idled; dispatcher = laterBy d (suc k) }
 tick-same-idle d k none e =
     tick-idle (laterBy d k) (λ q. omega arith) (omega (arith, none-picked (laterBy d k) none))
-    ∙ ap (λ (t : ℕ). record { answer = gave idled; dispatcher = record { frame = d .frame; count = d .count; clock = moment t; servers = d .servers } })
+    ∙ ap (λ (t : ℕ). leaving (gave idled) (standing d (moment t) (d .servers)))
     clock-more
   where
     clock-more : d .clock .tick + k + 1 ≡ d .clock .tick + suc k
@@ -226,7 +226,7 @@ module _ (w : Work) (t k : ℕ) (clock : ready w t .clock .tick ≡ t) (none : N
     (quiet : Quiet w t (suc k)) (end : t + suc k ≤ clockEnd) where
   later-none : laterBy (ready w t) 0 ≡ ready w t
   later-none =
-      ap (λ (u : ℕ). record { frame = ready w t .frame; count = ready w t .count; clock = moment u; servers = ready w t .servers })
+      ap (λ (u : ℕ). standing (ready w t) (moment u) (ready w t .servers))
       (add-zero (ready w t .clock .tick))
 
   pub at-idle : atMoment w (t + suc k) ≡ laterBy (ready w t) (suc k)

@@ -4,11 +4,11 @@ use lib.ListN.{getD, length, List·getD-eq-default}
 use mathlib.Core.List.{List}
 use mathlib.Core.Path.{_≡_}
 use native.Mathlib.Omega.{arith}
-use Rattle.numbers.specs.Word.{word}
+use Rattle.numbers.specs.Word.{numberAt}
 
 -- behind the end there is nothing, which counts 0
-pub word-behind : (file : List ℕ) (at : ℕ) → length file ≤ at → word file at ≡ 0
-unfolding word
+pub word-behind : (file : List ℕ) (at : ℕ) → length file ≤ at → numberAt file at ≡ 0
+unfolding numberAt
 word-behind file at h =
     rw (
       List·getD-eq-default file 0 {n = at} h,
@@ -18,6 +18,6 @@ word-behind file at h =
     )
 
 -- of bytes a number has 32 bits
-pub word-fits : (file : List ℕ) (at : ℕ) → ((i : ℕ) → getD file i 0 < 256) → word file at < 4_294_967_296
-unfolding word
+pub word-fits : (file : List ℕ) (at : ℕ) → ((i : ℕ) → getD file i 0 < 256) → numberAt file at < 4_294_967_296
+unfolding numberAt
 word-fits file at byte = omega (arith, byte at, byte (at + 1), byte (at + 2), byte (at + 3))

@@ -4,6 +4,6 @@ use lib.ListN.{getD}
 use mathlib.Core.List.{List}
 
 -- the number that starts at a byte of the file; there is nothing behind the file's end, and nothing counts 0
-unfoldable pub word : List ℕ → ℕ → ℕ
-word file at =
+unfoldable pub numberAt : List ℕ → ℕ → ℕ
+numberAt file at =
     getD file at 0 + 256 * getD file (at + 1) 0 + 65_536 * getD file (at + 2) 0 + 16_777_216 * getD file (at + 3) 0

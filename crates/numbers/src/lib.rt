@@ -2,11 +2,11 @@
 ghost use mathlib.Core.Path.{_≡_};
 ghost use Prim.Native.Nat.{_+_, _*_, _<_};
 ghost use lib.ListN.{getD, length};
-ghost use Rattle.numbers.specs.Word.{word};
+ghost use Rattle.numbers.specs.Word.{numberAt};
 
 // The number that starts at a byte of the file, low byte first; bytes behind the end count 0.
 pub fn word_at(file: &[u8], at: usize) -> u32
-    ensures { λ r. ⌜ r ≡ word (now (file .entry)) at ⌝ }
+    ensures { λ r. ⌜ r ≡ numberAt (now (file .entry)) at ⌝ }
 {
     let bytes = file.len();
     if at >= bytes {
@@ -21,7 +21,7 @@ pub fn word_at(file: &[u8], at: usize) -> u32
 // A number that lies in the file whole.
 fn word_inside(file: &[u8], at: usize) -> u32
     requires { ⌜ at + 3 < length (now file) ⌝ }
-    ensures { λ r. ⌜ r ≡ word (now (file .entry)) at ⌝ }
+    ensures { λ r. ⌜ r ≡ numberAt (now (file .entry)) at ⌝ }
 {
     low_first(file[at], file[at + 1], file[at + 2], file[at + 3])
 }
@@ -29,7 +29,7 @@ fn word_inside(file: &[u8], at: usize) -> u32
 // A number that starts in the file.
 fn word_cut_short(file: &[u8], at: usize) -> u32
     requires { ⌜ at < length (now file) ⌝ }
-    ensures { λ r. ⌜ r ≡ word (now (file .entry)) at ⌝ }
+    ensures { λ r. ⌜ r ≡ numberAt (now (file .entry)) at ⌝ }
 {
     low_first(
         byte_at(file, at),

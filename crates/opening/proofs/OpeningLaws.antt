@@ -20,14 +20,14 @@ use Rattle.dispatcher.specs.Within.{Within}
 use Rattle.refusal.proofs.AcceptedLaws.{accepted-test}
 use Rattle.refusal.specs.Refusals.{Said, refused, gave, accepted}
 use Rattle.sizes.specs.Sizes.{mostFrame, mostServers}
-use Rattle.opening.specs.Opening.{listed, outOfRange, judged, noServers, opening}
+use Rattle.opening.specs.Opening.{listed, outOfRange, tableJudged, noServers, opening}
 
-pub judged-out-of-range : (l : List ℕ) (H : Length) → outOfRange (length l) H ≡ true → judged l H ≡ refused 2 0
-unfolding judged
+pub judged-out-of-range : (l : List ℕ) (H : Length) → outOfRange (length l) H ≡ true → tableJudged l H ≡ refused 2 0
+unfolding tableJudged
 judged-out-of-range l H e = rw e
 
-pub judged-in-range : (l : List ℕ) (H : Length) → outOfRange (length l) H ≡ false → judged l H ≡ admission H (listed l)
-unfolding judged
+pub judged-in-range : (l : List ℕ) (H : Length) → outOfRange (length l) H ≡ false → tableJudged l H ≡ admission H (listed l)
+unfolding tableJudged
 judged-in-range l H e = rw e
 
 -- what a list and a frame have that are not refused by 2
@@ -48,23 +48,23 @@ in-range numbers H e =
     }
 
 -- what an accepted table is
-accepted-parts : (l : List ℕ) (H : Length) → judged l H ≡ accepted
+accepted-parts : (l : List ℕ) (H : Length) → tableJudged l H ≡ accepted
     → (outOfRange (length l) H ≡ false) × (admission H (listed l) ≡ accepted)
-unfolding judged
+unfolding tableJudged
 accepted-parts l H e = accepted-test 2 0 (outOfRange (length l) H) (admission H (listed l)) e
 
-pub accepted-in-range : (l : List ℕ) (H : Length) → judged l H ≡ accepted → InRange (length l) H
+pub accepted-in-range : (l : List ℕ) (H : Length) → tableJudged l H ≡ accepted → InRange (length l) H
 accepted-in-range l H e = in-range (length l) H (accepted-parts l H e .0)
 
-pub accepted-admitted : (l : List ℕ) (H : Length) → judged l H ≡ accepted → Admitted H (listed l)
+pub accepted-admitted : (l : List ℕ) (H : Length) → tableJudged l H ≡ accepted → Admitted H (listed l)
 accepted-admitted l H e = admitted H (listed l) (accepted-parts l H e .1)
 
-pub opening-accepted : (l : List ℕ) (H : Length) → judged l H ≡ accepted
+pub opening-accepted : (l : List ℕ) (H : Length) → tableJudged l H ≡ accepted
     → opening l H ≡ record { answer = accepted; dispatcher = atStart H (listed l) }
 unfolding opening
 opening-accepted l H e = rw e
 
-pub opening-refused : (l : List ℕ) (H : Length) (number place : ℕ) → judged l H ≡ refused number place
+pub opening-refused : (l : List ℕ) (H : Length) (number place : ℕ) → tableJudged l H ≡ refused number place
     → opening l H ≡ record { answer = refused number place; dispatcher = noServers }
 unfolding opening
 opening-refused l H number place e = rw e
@@ -76,9 +76,9 @@ noServers-within =
     (λ k h. absurd (not-suc-le-zero h))
 
 pub opening-within : (l : List ℕ) (H : Length) → Within (opening l H .dispatcher)
-opening-within l H = go (judged l H) refl
+opening-within l H = go (tableJudged l H) refl
   where
-    go : (s : Said (Unit {0})) → judged l H ≡ s → Within (opening l H .dispatcher)
+    go : (s : Said (Unit {0})) → tableJudged l H ≡ s → Within (opening l H .dispatcher)
     go (refused number place) e = rw (opening-refused l H number place e) noServers-within
     go (gave u) e =
         let within = accepted-in-range l H e in

@@ -26,8 +26,8 @@ outOfRange numbers H =
     ltb (H .ticks) 1 || ltb mostFrame (H .ticks) || ltb mostServers (numbers / 2) || not (eqb (numbers % 2) 0)
 
 -- "gives 2, 4 or 5 in that order"
-unfoldable pub judged : List ℕ → Length → Said (Unit {0})
-judged l H = cond (outOfRange (length l) H) (refused 2 0) (admission H (listed l))
+unfoldable pub tableJudged : List ℕ → Length → Said (Unit {0})
+tableJudged l H = cond (outOfRange (length l) H) (refused 2 0) (admission H (listed l))
 
 -- "a refused opening also hands back a dispatcher with H 1, no servers and the clock at 0"
 abbrev pub noServers : Dispatcher
@@ -40,7 +40,7 @@ handedBack (refused number place) d = noServers
 
 -- opening: the judgement, and the dispatcher of the table at its start where it is accepted
 unfoldable pub opening : List ℕ → Length → Moved (Unit {0})
-opening l H = record { answer = judged l H; dispatcher = handedBack (judged l H) (atStart H (listed l)) }
+opening l H = record { answer = tableJudged l H; dispatcher = handedBack (tableJudged l H) (atStart H (listed l)) }
 
 -- what the struct that opening answers says
 abbrev pub openingSays : Opened → Moved (Unit {0})

@@ -6,7 +6,7 @@ ghost use Rattle.dispatcher.specs.Start.{atStart};
 ghost use Rattle.dispatcher.specs.Within.{Within};
 ghost use Rattle.refusal.specs.Refusals.{onPaper};
 ghost use Rattle.sizes.specs.Sizes.{mostServers};
-ghost use Rattle.opening.specs.Opening.{listed, outOfRange, judged, opening, openingSays, noServers};
+ghost use Rattle.opening.specs.Opening.{listed, outOfRange, tableJudged, opening, openingSays, noServers};
 use booking::Booking;
 use clock::Length;
 use clock::Moment;
@@ -34,7 +34,7 @@ pub fn open_table(table: &[u64], frame: Length) -> Opened
 
 // 2, then 4 at the first faulty server, then 5.
 fn judge(table: &[u64], frame: Length) -> Verdict
-    ensures { λ r. ⌜ onPaper r ≡ judged (now (table .entry)) frame ⌝ }
+    ensures { λ r. ⌜ onPaper r ≡ tableJudged (now (table .entry)) frame ⌝ }
 {
     if is_out_of_range(table.len(), frame) {
         return Verdict::Refused(Refusal::Sizes);
@@ -93,7 +93,7 @@ fn start(table: &[u64], frame: Length) -> Dispatcher
     ensures { λ r. ⌜ r ≡ atStart frame (listed (now (table .entry))) ⌝ }
 {
     let count = table.len() / 2;
-    let mut servers = [server::blank(); sizes::MOST_SERVERS];
+    let mut servers = [server::vacant(); sizes::MOST_SERVERS];
     let mut k = 0;
     while k < count {
         servers[k] = server::fresh(booking_at(table, k));
@@ -115,6 +115,6 @@ fn no_servers() -> Dispatcher
         frame: Length { ticks: 1 },
         count: 0,
         clock: Moment { tick: 0 },
-        servers: [server::blank(); sizes::MOST_SERVERS],
+        servers: [server::vacant(); sizes::MOST_SERVERS],
     }
 }

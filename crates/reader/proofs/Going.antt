@@ -38,7 +38,7 @@ use prog.Wp.{Heap, Calls, Loops, WpFn, Tables}
 use sound.WpLaws.{FmC, fmOf, WpFn-mono}
 use types.Kit.{Given, ‵, raw, _⊛_, ⋆, _$_, _∵_, !, qed, by, move, drop, use1, use2, split, fsplit, fjoin, suffices, frame, done}
 use types.Run.{look, init, forget, stop, from, load, and-then, no-more, land, returns, enter, alloc1, alloc0, params1, pass1, pass0, free1, free0}
-use Rattle.reader.specs.Reader.{atStart, movedOn}
+use Rattle.reader.specs.Reader.{readerOf, movedOn}
 use Rattle.reader.specs.declared.Reader.{Reader}
 use Rattle.reader.proofs.Reader as T
 use Rattle.reader.proofs.Reader.Laws as T′
@@ -80,10 +80,10 @@ module _ (k : Kind) where
   module _ {M : Type 1} (𝓤 : URA M) (H : Heap 𝓤) (A : Atoms 𝓤) (W : Given 𝓤 H A) (mem : Memory → SProp 𝓤) (run : Routine → Fun 𝓤)
       (E : Ensures 𝓤 (byBlock k)) (κ : Lft) (q : Share) (s : RefT (List ℕ)) (block further : ℕ) (ok-block : block < 2 ^ 64) (ok-further : further < 2 ^ 64)
       (shown : (e : AtExit (byBlock k) (κ, tt))
-      → ent 𝓤 (emp 𝓤) (E (κ, tt) (s, (block, (further, tt))) (k .lying (now s) (movedOn (movedOn (atStart s) block) further .at)) e)) where
+      → ent 𝓤 (emp 𝓤) (E (κ, tt) (s, (block, (further, tt))) (k .lying (now s) (movedOn (movedOn (readerOf s) block) further .at)) e)) where
     -- the reader that `new` returns, the two that `moved_on` returns, and the record that is taken
     abbrev first : Reader
-    first = atStart s
+    first = readerOf s
 
     abbrev second : Reader
     second = movedOn first block
@@ -190,7 +190,7 @@ module _ (k : Kind) where
 
   module _ {M : Type 1} (𝓤 : URA M) (H : Heap 𝓤) (A : Atoms 𝓤) (W : Given 𝓤 H A) (mem : Memory → SProp 𝓤) (run : Routine → Fun 𝓤)
       (E : Ensures 𝓤 (byBlock k)) (shown : (κs : Lfts 1) (s : RefT (List ℕ)) (block further : ℕ) (e : AtExit (byBlock k) κs)
-      → ent 𝓤 (emp 𝓤) (E κs (s, (block, (further, tt))) (k .lying (now s) (movedOn (movedOn (atStart s) block) further .at)) e)) where
+      → ent 𝓤 (emp 𝓤) (E κs (s, (block, (further, tt))) (k .lying (now s) (movedOn (movedOn (readerOf s) block) further .at)) e)) where
     walks : (C : Calls 𝓤 H) (Λ : Loops 𝓤 H) → FmC 𝓤 H (W .laws) C → Triple 𝓤 (C #new) (New 𝓤 H A mem run)
         → Triple 𝓤 (C #moved-on) (MovedOn 𝓤 H A mem run) → (f : Name) → Triple 𝓤 (C f) (Taken 𝓤 H A) → Walks 𝓤 H A (byBlock k) stayed (WpFn 𝓤 H C Λ (going f)) (ensuring (byBlock k) E)
     walks C Λ fm known-new known-moved f known-take =

@@ -6,8 +6,8 @@ use mathlib.Core.List.{List}
 use Rattle.reader.specs.declared.Reader.{Reader}
 
 -- a reader of a file begins at its first byte
-abbrev pub atStart : RefT (List ℕ) → Reader
-atStart file = record { file = file; at = 0 }
+abbrev pub readerOf : RefT (List ℕ) → Reader
+readerOf file = record { file = file; at = 0 }
 
 -- a reader stays on the file's bytes: it goes no further than their end
 abbrev pub placeAfter : List ℕ → ℕ → ℕ → ℕ

@@ -4,7 +4,7 @@
 // plain parameters, below them, are for everyone else.
 ghost use mathlib.Core.Path.{_≡_};
 ghost use Prim.Native.Nat.{_+_};
-ghost use Rattle.reader.specs.Reader.{atStart, placeAfter, movedOn};
+ghost use Rattle.reader.specs.Reader.{readerOf, placeAfter, movedOn};
 ghost use Rattle.workfile.specs.Layout.{bookingAt, arrivalAt};
 use arrival::Arrival;
 use booking::Booking;
@@ -16,7 +16,7 @@ pub struct Reader<'a> {
 
 // A reader at the file's first byte.
 pub fn new<'a>(file: &'a [u8]) -> Reader<'a>
-    ensures { λ r. ⌜ r ≡ atStart (file .entry) ⌝ }
+    ensures { λ r. ⌜ r ≡ readerOf (file .entry) ⌝ }
 {
     Reader { file, at: 0 }
 }

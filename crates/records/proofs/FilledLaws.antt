@@ -11,10 +11,12 @@ use native.Mathlib.Omega.{arith}
 use Rattle.counting.proofs.PlacesLaws.{getD-places, places-getD, places-same, set-places}
 use Rattle.counting.specs.Places.{places}
 use Rattle.sizes.specs.Sizes.{mostServers}
-use Rattle.summary.specs.Summary.{blank}
+use Rattle.summary.specs.Summary.{blank, arrivedOf, finishedOf, responses, summaryBy}
 use Rattle.summary.specs.declared.Summary.{Summary}
-use Rattle.records.specs.Records.{filledAt, filled}
-use Rattle.records.specs.working.Job.{withCounts}
+use Rattle.workfile.specs.Work.{Work}
+use Rattle.records.specs.Records.{finishIn, recordsOf}
+use Rattle.records.specs.working.Job.{withCounts, recordUpTo, recordsUpTo, filled}
+use Rattle.records.proofs.GrowthLaws.{record-in, record-behind}
 
 module _ (postponed interrupted : List ℕ) (records : List Summary) where
   -- none at first
@@ -25,18 +27,6 @@ module _ (postponed interrupted : List ℕ) (records : List Summary) where
       ∙ ap (λ (n : ℕ). places n (λ i. getD records i blank)) (sym whole)
       ∙ places-getD records blank
 
-  -- 64 servers are all that there are
-  pub filled-all : (n : ℕ) → filled (min n mostServers) postponed interrupted records ≡ filled n postponed interrupted records
-  unfolding filled
-  filled-all n = places-same mostServers _ _ (λ i b. go i b (decLt i n))
-    where
-      upTo : ℕ → ℕ → Summary
-      upTo k i = cond (ltb i k) (filledAt postponed interrupted (getD records i blank) i) (getD records i blank)
-
-      go : (i : ℕ) → i < mostServers → Dec (i < n) → upTo (min n mostServers) i ≡ upTo n i
-      go i b (yes l) = rw (lt-ltb i n l, lt-ltb i (min n mostServers) (omega arith))
-      go i b (no l) = rw (le-ltb i n (omega arith), le-ltb i (min n mostServers) (omega arith))
-
   module _ (n : ℕ) (l : n < mostServers) where
     -- the next one is still as it was
     filled-next : getD (filled n postponed interrupted records) n blank ≡ getD records n blank
@@ -44,7 +34,7 @@ module _ (postponed interrupted : List ℕ) (records : List Summary) where
     filled-next = getD-places mostServers _ n blank l ∙ rw (le-ltb n n (omega arith))
 
     -- and then has its counts too
-    filled-one : set (filled n postponed interrupted records) n (filledAt postponed interrupted (getD records n blank) n)
+    filled-one : set (filled n postponed interrupted records) n (withCounts (getD records n blank) (getD postponed n 0) (getD interrupted n 0))
         ≡ filled (suc n) postponed interrupted records
     unfolding filled
     filled-one =
@@ -52,9 +42,9 @@ module _ (postponed interrupted : List ℕ) (records : List Summary) where
         ∙ set-places mostServers (upTo n) (upTo (suc n)) n l (λ i q. go i q (decLt i n))
       where
         upTo : ℕ → ℕ → Summary
-        upTo k i = cond (ltb i k) (filledAt postponed interrupted (getD records i blank) i) (getD records i blank)
+        upTo k i = cond (ltb i k) (withCounts (getD records i blank) (getD postponed i 0) (getD interrupted i 0)) (getD records i blank)
 
-        here : upTo (suc n) n ≡ filledAt postponed interrupted (getD records n blank) n
+        here : upTo (suc n) n ≡ withCounts (getD records n blank) (getD postponed n 0) (getD interrupted n 0)
         here = rw (lt-ltb n (suc n) (omega arith))
 
         go : (i : ℕ) → (i ≡ n → ⊥) → Dec (i < n) → upTo n i ≡ upTo (suc n) i
@@ -64,5 +54,23 @@ module _ (postponed interrupted : List ℕ) (records : List Summary) where
     pub filled-more : {all : List Summary} → all ≡ filled n postponed interrupted records
         → set all n (withCounts (getD all n blank) (getD postponed n 0) (getD interrupted n 0))
         ≡ filled (suc n) postponed interrupted records
-    unfolding filledAt
     filled-more e = rw (e, filled-next) filled-one
+
+-- All arrivals and all counts tell the records.
+pub records-all : (w : Work) (list postponed interrupted : List ℕ)
+    → filled (min (w .table .count) mostServers) postponed interrupted (recordsUpTo w list (w .arrivals)) ≡ recordsOf w list postponed interrupted
+unfolding filled recordsOf recordsUpTo arrivedOf finishedOf responses
+records-all w list postponed interrupted = places-same mostServers _ _ (λ i b. go i b (decLt i (w .table .count)))
+  where
+    told : ℕ → Summary
+    told i = getD (places mostServers (recordUpTo w list (w .arrivals))) i blank
+
+    go : (i : ℕ) → i < mostServers → Dec (i < w .table .count)
+        → cond (ltb i (min (w .table .count) mostServers)) (withCounts (told i) (getD postponed i 0) (getD interrupted i 0)) (told i)
+        ≡ cond (ltb i (w .table .count)) (summaryBy w (finishIn list) (getD postponed i 0) (getD interrupted i 0) i) blank
+    go i b (yes l) =
+        rw (lt-ltb i (w .table .count) l, lt-ltb i (min (w .table .count) mostServers) (omega arith))
+        (ap (λ (s : Summary). withCounts s (getD postponed i 0) (getD interrupted i 0)) (getD-places mostServers _ i blank b ∙ record-in w list (w .arrivals) i l))
+    go i b (no l) =
+        rw (le-ltb i (w .table .count) (omega arith), le-ltb i (min (w .table .count) mostServers) (omega arith))
+        (getD-places mostServers _ i blank b ∙ record-behind w list (w .arrivals) i (omega arith))

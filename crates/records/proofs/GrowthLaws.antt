@@ -1,11 +1,12 @@
 -- How the records grow, arrival by arrival, and that 64 bits hold them.
-use Prim.Native.Nat.{ℕ, zero, suc, _+_, _≤_, _<_}
-use borrow.Author.Tests.{eq-eqb, ne-eqb}
-use lib.Dec.{eqb}
+use Prim.Native.Nat.{ℕ, zero, suc, _+_, _≤_, _<_, min}
+use borrow.Author.Tests.{eq-eqb, ne-eqb, lt-ltb, le-ltb}
+use lib.Dec.{eqb, ltb}
 use lib.ListN.{length, getD, replicate, set, length-append}
 use mathlib.Core.Bool.{Bool, true, false, cond}
 use mathlib.Core.List.{List, [], _∷_}
 use mathlib.Core.Path.{_≡_, refl, sym, _∙_, ap, ap₂}
+use native.Mathlib.Decide.{ℕ-discrete}
 use native.Mathlib.Nat.{le-of-suc-le-suc, not-suc-le-zero}
 use native.Mathlib.Omega.{arith}
 use Rattle.arrival.specs.declared.Arrival.{Arrival}
@@ -14,13 +15,14 @@ use Rattle.counting.proofs.CountLaws.{count-hit, count-miss, count-le}
 use Rattle.counting.proofs.PlacesLaws.{getD-places, places-same, places-replicate, set-places}
 use Rattle.counting.specs.Count.{count}
 use Rattle.counting.specs.Totals.{longest}
-use Rattle.finish.specs.Finish.{Finish, isOpen, at}
+use Rattle.finish.specs.Finish.{Finish, isOpen, finishedAt}
 use Rattle.sizes.specs.Sizes.{mostServers, openJob}
 use Rattle.summary.proofs.SummaryLaws.{response-more, responses-other, responses-open, responses-at, few-upto, total-upto}
-use Rattle.summary.specs.Summary.{blank, isJob, responseOf, responseIn, responsesOf, arrivedOf, finishedOf, responses}
+use Rattle.summary.specs.Summary.{blank, isJob, responseOf, responseIn, responsesOf}
+use Rattle.summary.specs.declared.Response.{Response}
 use Rattle.summary.specs.declared.Summary.{Summary}
 use Rattle.workfile.specs.Work.{Work}
-use Rattle.records.specs.Records.{finishIn, recordOf, recordsOf}
+use Rattle.records.specs.Records.{finishIn}
 use Rattle.records.specs.working.Job.{withJob, Roomy, counted, overJobs, recordUpTo, recordsUpTo}
 
 -- a place of a list is read as it is, whatever stands for what is behind the end
@@ -37,30 +39,44 @@ still-narrow (x ∷ l) h (suc j) = still-narrow l (λ i. h (suc i)) j
 
 -- Of a work and a list of finishes.
 module _ (w : Work) (list : List ℕ) where
-  -- none tell nothing
+  -- a server of the table, and one behind it
+  pub record-in : (k i : ℕ) → i < w .table .count → recordUpTo w list k i ≡ overJobs (count k (isJob w i)) (responsesOf w (finishIn list) i k)
+  unfolding recordUpTo
+  record-in k i l = rw (lt-ltb i (w .table .count) l)
+
+  pub record-behind : (k i : ℕ) → w .table .count ≤ i → recordUpTo w list k i ≡ blank
+  unfolding recordUpTo
+  record-behind k i l = rw (le-ltb i (w .table .count) l)
+
+  -- no arrival tells nothing
   pub records-none : replicate mostServers blank ≡ recordsUpTo w list 0
   unfolding recordsUpTo recordUpTo count responsesOf responseIn
-  records-none = places-replicate mostServers blank
-
-  -- and all of them all
-  pub records-all : recordsUpTo w list (w .arrivals) ≡ recordsOf w list
-  unfolding recordsUpTo recordUpTo recordsOf recordOf arrivedOf finishedOf responses
-  records-all = refl
+  records-none = places-replicate mostServers blank ∙ places-same mostServers (λ i. blank) (recordUpTo w list 0) (λ i b. go (ltb i (w .table .count)))
+    where
+      go : (t : Bool) → blank ≡ cond t blank blank
+      go true = refl
+      go false = refl
 
   -- One arrival more
   module _ (k : ℕ) where
-    -- tells nothing of other servers
+    -- tells nothing of other servers,
     other-stays : (i : ℕ) → (w .arrival k .server ≡ i → ⊥) → recordUpTo w list k i ≡ recordUpTo w list (suc k) i
     unfolding recordUpTo
     other-stays i other =
-        ap₂ overJobs (sym (count-miss k (isJob w i) (ne-eqb (w .arrival k .server) i other)))
-        (sym (responses-other w (finishIn list) i k other))
+        ap (λ (s : Summary). cond (ltb i (w .table .count)) s blank)
+        (ap₂ overJobs (sym (count-miss k (isJob w i) (ne-eqb (w .arrival k .server) i other)))
+        (sym (responses-other w (finishIn list) i k other)))
+
+    -- nothing of one behind the table,
+    behind-stays : (i : ℕ) → w .table .count ≤ i → recordUpTo w list k i ≡ recordUpTo w list (suc k) i
+    behind-stays i l = record-behind k i l ∙ sym (record-behind (suc k) i l)
 
     -- and of its own that it has arrived, and finished where the list says so
-    own-grows : withJob (recordUpTo w list k (w .arrival k .server)) (w .arrival k .moment) (finishIn list k)
+    own-grows : w .arrival k .server < w .table .count
+        → withJob (recordUpTo w list k (w .arrival k .server)) (w .arrival k .moment) (finishIn list k)
         ≡ recordUpTo w list (suc k) (w .arrival k .server)
-    unfolding recordUpTo withJob
-    own-grows = go (finishIn list k) refl
+    unfolding withJob
+    own-grows l = rw (record-in k i l, record-in (suc k) i l) (go (finishIn list k) refl)
       where
         i : ℕ
         i = w .arrival k .server
@@ -71,33 +87,39 @@ module _ (w : Work) (list : List ℕ) where
         hit : count k (isJob w i) + 1 ≡ count (suc k) (isJob w i)
         hit = sym (count-hit k (isJob w i) (eq-eqb i i refl))
 
-        go : (x : Finish) → finishIn list k ≡ x → withJob (recordUpTo w list k i) (w .arrival k .moment) x ≡ recordUpTo w list (suc k) i
+        go : (x : Finish) → finishIn list k ≡ x
+            → withJob (overJobs (count k (isJob w i)) before) (w .arrival k .moment) x
+            ≡ overJobs (count (suc k) (isJob w i)) (responsesOf w (finishIn list) i (suc k))
         go isOpen e = ap₂ overJobs hit (sym (responses-open w (finishIn list) i k refl e))
-        go (at t) e =
-            let lasted = until (w .arrival k .moment) (moment t) .ticks in
-            ap₂ (counted (count k (isJob w i) + 1)) (sym (length-append before (lasted ∷ []))) (sym (response-more before lasted))
+        go (finishedAt t) e =
+            let lasted = until (w .arrival k .moment) t .ticks in
+            ap₂ (λ (n : ℕ) (r : Response). counted (count k (isJob w i) + 1) n 0 0 r) (sym (length-append before (lasted ∷ []))) (sym (response-more before lasted))
             ∙ ap₂ overJobs hit (sym (responses-at w (finishIn list) i k refl t e))
 
-    -- Of the records before it, and the arrival as it was read.
-    module _ {records : List Summary} (before : records ≡ recordsUpTo w list k) {a : Arrival} (read : a ≡ w .arrival k) where
-      pub records-stay : mostServers ≤ a .server → records ≡ recordsUpTo w list (suc k)
+    -- Of the records before it, and the arrival as it was read: `servers` of the 64 places hold a server.
+    module _ {records : List Summary} (before : records ≡ recordsUpTo w list k) {a : Arrival} (read : a ≡ w .arrival k) {servers : ℕ}
+        (as-many : servers ≡ min (w .table .count) mostServers) where
+      pub records-stay : servers ≤ a .server → records ≡ recordsUpTo w list (suc k)
       unfolding recordsUpTo
       records-stay no-place =
-          before
-          ∙ places-same mostServers (recordUpTo w list k) (recordUpTo w list (suc k))
-          (λ i b. other-stays i (λ e. omega (arith, ap (λ (x : Arrival). x .server) read)))
+          before ∙ places-same mostServers (recordUpTo w list k) (recordUpTo w list (suc k)) (λ i b. go i b (ℕ-discrete (w .arrival k .server) i))
+        where
+          go : (i : ℕ) → i < mostServers → Dec (w .arrival k .server ≡ i) → recordUpTo w list k i ≡ recordUpTo w list (suc k) i
+          go i b (yes own) = behind-stays i (omega (arith, ap (λ (x : Arrival). x .server) read))
+          go i b (no other) = other-stays i other
 
-      pub records-more : a .server < mostServers
+      pub records-more : a .server < servers
           → set records (a .server) (withJob (getD records (a .server) blank) (a .moment) (finishIn list k)) ≡ recordsUpTo w list (suc k)
       unfolding recordsUpTo
       records-more place =
           let i = w .arrival k .server in
-          let known : i < mostServers = rw read at place in
+          let known : i < servers = rw read at place in
           rw (before, read)
           (ap (set (recordsUpTo w list k) i)
-          (ap (λ (s : Summary). withJob s (w .arrival k .moment) (finishIn list k)) (getD-places mostServers (recordUpTo w list k) i blank known)
-          ∙ own-grows)
-          ∙ set-places mostServers (recordUpTo w list k) (recordUpTo w list (suc k)) i known (λ j q. other-stays j (λ e. q (sym e))))
+          (ap (λ (s : Summary). withJob s (w .arrival k .moment) (finishIn list k))
+          (getD-places mostServers (recordUpTo w list k) i blank (omega arith))
+          ∙ own-grows (omega arith))
+          ∙ set-places mostServers (recordUpTo w list k) (recordUpTo w list (suc k)) i (omega arith) (λ j q. other-stays j (λ e. q (sym e))))
 
   -- Where the list's numbers have 32 bits, there is room for one job more behind fewer than 4,294,967,295.
   module _ (narrow : (j : ℕ) → getD list j 0 ≤ openJob) where
@@ -106,14 +128,16 @@ module _ (w : Work) (list : List ℕ) where
     unfolding longest
     response-narrow k = go (eqb (getD list k openJob) openJob) (still-narrow list narrow k)
       where
-        go : (b : Bool) → getD list k openJob ≤ openJob → longest (responseOf w k (cond b isOpen (at (getD list k openJob)))) ≤ openJob
+        go : (b : Bool) → getD list k openJob ≤ openJob
+            → longest (responseOf w k (cond b isOpen (finishedAt (moment (getD list k openJob))))) ≤ openJob
         go true h = omega arith
         go false h = omega arith
 
-    pub records-roomy : (k i : ℕ) → k < openJob → i < mostServers → Roomy (getD (recordsUpTo w list k) i blank) (getD list k openJob)
-    unfolding recordsUpTo recordUpTo
+    pub records-roomy : (k i : ℕ) → k < openJob → i < min (w .table .count) mostServers
+        → Roomy (getD (recordsUpTo w list k) i blank) (getD list k openJob)
+    unfolding recordsUpTo
     records-roomy k i few place =
-        rw (getD-places mostServers (recordUpTo w list k) i blank place)
+        rw (getD-places mostServers (recordUpTo w list k) i blank (omega arith), record-in k i (omega arith))
         (record {
           arrived = omega (arith, count-le k (isJob w i));
           finished = omega (arith, few-upto w (finishIn list) i k);

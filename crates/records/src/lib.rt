@@ -1,6 +1,6 @@
-// The 64 records of a run, told from its work file and its finish list when the run is over: an array that is handed on in the run's own
-// loop would take longer than the rest of it. What no finish list tells is counted beside, and put in; there the array is handed on, once
-// for each server. A job changes its record in place: handed on for each job, the array would be copied twice a job.
+// The 64 records of a run, told when it is over from its work file, its finish list and the counts that were kept beside it: handed on in
+// the run's own loop the array would take longer than the rest of it. Each job, and then each server's counts, change one record of the
+// array, which is handed on and back by value.
 ghost use mathlib.Core.Path.{_≡_};
 ghost use Prim.Native.Nat.{_+_, _≤_, _<_, max, min};
 ghost use lib.ListN.{getD};
@@ -10,29 +10,42 @@ ghost use Rattle.sizes.specs.Sizes.{mostServers, openJob};
 ghost use Rattle.summary.proofs.SummaryLaws.{totalOf, withResponse};
 ghost use Rattle.workfile.specs.Layout.{header};
 ghost use Rattle.workfile.specs.Work.{work};
-ghost use Rattle.records.specs.working.Job.{withCounts, Roomy, recordsUpTo, withJob};
-ghost use Rattle.records.specs.Records.{filled, recordsOf};
+ghost use Rattle.records.specs.working.Job.{filled, withCounts, Roomy, recordsUpTo, withJob};
+ghost use Rattle.records.specs.Records.{recordsOf};
 use clock::Length;
 use clock::Moment;
 use summary::Response;
 use summary::Summary;
 
-// The records that a file and a finish list tell, job by job in file order. No count of postponements or interruptions is in them.
-pub fn of_jobs(file: &[u8], finishes: &[u32]) -> [Summary; sizes::MOST_SERVERS]
-    ensures { λ r. ⌜ r ≡ recordsOf (work (now (file .entry))) (now (finishes .entry)) ⌝ }
+// The records that a file, a finish list and the counts of each server tell.
+pub fn of_run(
+    file: &[u8],
+    finishes: &[u32],
+    postponed: &[u64; sizes::MOST_SERVERS],
+    interrupted: &[u64; sizes::MOST_SERVERS],
+) -> [Summary; sizes::MOST_SERVERS]
+    ensures { λ r. ⌜ r ≡ recordsOf (work (now (file .entry))) (now (finishes .entry)) (now (postponed .entry)) (now (interrupted .entry)) ⌝ }
 {
     let h = workfile::header_of(file);
+    let servers = least(h.servers.count, sizes::MOST_SERVERS);
     let from = h.arrivals.offset;
-    of_arrivals(file, from, h.arrivals.count, finishes)
+    fill(
+        of_arrivals(file, servers, from, h.arrivals.count, finishes),
+        servers,
+        postponed,
+        interrupted,
+    )
 }
 
-// Those that m arrivals tell, the first of which starts at byte `from`. One of a server that has no record changes none.
+// Those that m arrivals tell of so many servers, job by job in file order; the first arrival starts at byte `from`.
 fn of_arrivals(
     file: &[u8],
+    servers: usize,
     from: usize,
     m: usize,
     finishes: &[u32],
 ) -> [Summary; sizes::MOST_SERVERS]
+    requires { ⌜ servers ≡ min (header (now file) .servers .count) mostServers ⌝ }
     requires { ⌜ from ≡ header (now file) .arrivals .offset ⌝ }
     requires { ⌜ m ≤ openJob ⌝ }
     ensures { λ r. ⌜ r ≡ recordsUpTo (work (now (file .entry))) (now (finishes .entry)) m ⌝ }
@@ -42,9 +55,10 @@ fn of_arrivals(
     while k < m {
         let a = reader::arrival_from(file, from, sizes::ARRIVAL_BYTES * k);
         let i = a.server;
-        if i < sizes::MOST_SERVERS {
+        if i < servers {
             let s = with_job(records[i], a.moment, finish_in(finishes, k));
-            records[i] = s;
+            let changed = summary::with_record(records, i, s);
+            records = changed;
         }
         k += 1;
     }
@@ -116,16 +130,16 @@ fn longer(a: Length, b: Length) -> Length
     a
 }
 
-// The records, those of the first n servers with the counts that were kept beside them.
-pub fn fill(
+// The records, those of the first servers with the counts that were kept beside them.
+fn fill(
     records: [Summary; sizes::MOST_SERVERS],
-    n: usize,
+    servers: usize,
     postponed: &[u64; sizes::MOST_SERVERS],
     interrupted: &[u64; sizes::MOST_SERVERS],
 ) -> [Summary; sizes::MOST_SERVERS]
-    ensures { λ r. ⌜ r ≡ filled n (now (postponed .entry)) (now (interrupted .entry)) records ⌝ }
+    requires { ⌜ servers ≤ mostServers ⌝ }
+    ensures { λ r. ⌜ r ≡ filled servers (now (postponed .entry)) (now (interrupted .entry)) records ⌝ }
 {
-    let servers = least(n, sizes::MOST_SERVERS);
     let mut all = records;
     let mut i = 0;
     while i < servers {

@@ -5,33 +5,25 @@ use Rattle.refusal.specs.declared.Refusal.the-variants.{FileLength, Size
 use Rattle.refusal.specs.declared.Verdict.{Verdict}
 use Rattle.refusal.specs.declared.Verdict.the-variants.{Accepted, Refused}
 
--- the column "No."
-abbrev pub numberOf : Refusal → ℕ
-numberOf FileLength = 1
-numberOf Sizes = 2
-numberOf Layout = 3
-numberOf (FaultyServer k) = 4
-numberOf Shares = 5
-numberOf (FaultyArrival k) = 6
-numberOf (BackwardArrival k) = 7
-numberOf (LateArrival k) = 8
-numberOf FinishList = 9
-numberOf ClockEnd = 10
-numberOf WaitingWork = 11
+-- the table, row by row: "No." and "Place"
+abbrev pub inTable : Refusal → ℕ × ℕ
+inTable FileLength = (1, 0)
+inTable Sizes = (2, 0)
+inTable Layout = (3, 0)
+inTable (FaultyServer k) = (4, k)
+inTable Shares = (5, 0)
+inTable (FaultyArrival k) = (6, k)
+inTable (BackwardArrival k) = (7, k)
+inTable (LateArrival k) = (8, k)
+inTable FinishList = (9, 0)
+inTable ClockEnd = (10, 0)
+inTable WaitingWork = (11, 0)
 
--- the column "Place"
+abbrev pub numberOf : Refusal → ℕ
+numberOf r = inTable r .0
+
 abbrev pub placeOf : Refusal → ℕ
-placeOf FileLength = 0
-placeOf Sizes = 0
-placeOf Layout = 0
-placeOf (FaultyServer k) = k
-placeOf Shares = 0
-placeOf (FaultyArrival k) = k
-placeOf (BackwardArrival k) = k
-placeOf (LateArrival k) = k
-placeOf FinishList = 0
-placeOf ClockEnd = 0
-placeOf WaitingWork = 0
+placeOf r = inTable r .1
 
 -- what the document says of an outcome: it was refused with a number and a place, or it gave a value
 pub data Said (A : Type 0) : Type 0 where

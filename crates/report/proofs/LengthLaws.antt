@@ -16,29 +16,28 @@ use Rattle.moments.specs.Moments.{history}
 use Rattle.refusal.specs.Refusals.{Said, refused, gave}
 use Rattle.sizes.specs.Sizes.{clockEnd, mostArrivals, mostShown}
 use Rattle.summary.proofs.BoundLaws.{summary-bounded}
-use Rattle.summary.specs.Summary.{finishes, summaryOf}
+use Rattle.summary.specs.Summary.{traceOf, finishes, summaryOf}
 use Rattle.text.proofs.LengthLaws.{each-length}
 use Rattle.text.proofs.PageLaws.{added-whole}
 use Rattle.text.specs.Line.{each}
 use Rattle.text.specs.Page.{page, added}
 use Rattle.trace.proofs.SegmentLaws.{every-take, begun-few, begun-every}
-use Rattle.trace.specs.Segments.{Every}
+use Rattle.trace.specs.Segments.{EverySegment}
 use Rattle.trace.specs.Trace.{segmentsOf}
 use Rattle.trace.specs.declared.Segment.{Segment}
 use Rattle.workfile.specs.Work.{Work, work}
 use Rattle.report.specs.DayReport.{admittedLine, segmentLine, segmentLines, segmentsLine, jobLine, serverLine, acceptedReport, reportOf, dayReport, mostBytes}
 use Rattle.report.proofs.LineLengthLaws.{refused-length, admitted-length, segment-length, segments-length, job-length, server-length}
-use Rattle.report.specs.working.AfterRun.{traceOf}
 
 -- a segment whose line has at most 41 bytes
 abbrev Short : Segment → Type 0
 Short s = length (segmentLine s) ≤ 41
 
-segments-short : (c : Choice) → InRange c → (b k : ℕ) → b ≤ clockEnd → k ≤ clockEnd → Every Short (segmentsOf c b k)
+segments-short : (c : Choice) → InRange c → (b k : ℕ) → b ≤ clockEnd → k ≤ clockEnd → EverySegment Short (segmentsOf c b k)
 segments-short nobody r b k x y = tt
 segments-short (given i d) r b k x y = (segment-length _ x y (r .0) (r .1), tt)
 
-short-length : (l : List Segment) → Every Short l → length (segmentLines l) ≤ length l * 41
+short-length : (l : List Segment) → EverySegment Short l → length (segmentLines l) ≤ length l * 41
 unfolding segmentLines
 short-length [] x = omega arith
 short-length (s ∷ l) x = omega (arith, x .0, short-length l (x .1), length-append (segmentLine s) (segmentLines l))
@@ -60,7 +59,7 @@ module _ {w : Work} {places : ℕ} (fit : Fit w places) where
   trace-few : length (traceOf w) ≤ clockEnd
   trace-few = le-trans (begun-few (history w) (w .horizon .tick) (w .horizon .tick)) (fit .horizon)
 
-  trace-short : Every Short (traceOf w)
+  trace-short : EverySegment Short (traceOf w)
   trace-short =
       begun-every (history w) (w .horizon .tick) Short
       (λ b k some ends all. segments-short (history w b) (history-in-range fit b) b k (omega (arith, fit .horizon)) (omega (arith, fit .horizon)))

@@ -5,7 +5,7 @@ use mathlib.Core.List.{[], _∷_}
 use native.Mathlib.Nat.{mul-le-mul}
 use native.Mathlib.Omega.{arith}
 use Rattle.counting.specs.Totals.{longest}
-use Rattle.finish.specs.Finish.{Finish, isOpen, at}
+use Rattle.finish.specs.Finish.{Finish, isOpen, finishedAt}
 use Rattle.judgement.proofs.FitLaws.{Fit}
 use Rattle.sizes.specs.Sizes.{clockEnd, mostArrivals, mostFrame, mostServers, mostShown}
 use Rattle.summary.proofs.BoundLaws.{AtMost, Bounded}
@@ -76,8 +76,9 @@ job-length w k isOpen a b c by =
       decimal-length 1 (w .arrival k .server) (omega arith),
       decimal-length 6 m (omega arith),
     )
-job-length w k (at t) a b c by =
+job-length w k (finishedAt u) a b c by =
     let m = w .arrival k .moment .tick in
+    let t = u .tick in
     omega (
       arith,
       line-length "job" (number k ∷ number (w .arrival k .server) ∷ number m ∷ number t ∷ number (t - m) ∷ []),

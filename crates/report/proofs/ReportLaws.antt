@@ -8,7 +8,7 @@ use Rattle.booking.specs.Admission.{shares}
 use Rattle.counting.proofs.PlacesLaws.{length-places}
 use Rattle.finish.specs.Finish.{finishList}
 use Rattle.sizes.specs.Sizes.{mostArrivals, mostShown}
-use Rattle.summary.specs.Summary.{blank, summaryOf}
+use Rattle.summary.specs.Summary.{traceOf, blank, summaryOf}
 use Rattle.summary.specs.declared.Summary.{Summary}
 use Rattle.text.proofs.PageLaws.{added-as, added-then}
 use Rattle.text.specs.Line.{each}
@@ -18,8 +18,8 @@ use Rattle.trace.specs.Written.{fitting, segmentIn}
 use Rattle.trace.specs.declared.Segment.{Segment}
 use Rattle.workfile.specs.Work.{Work, work}
 use Rattle.report.specs.DayReport.{admittedLine, segmentLine, segmentLines, segmentsLine, jobLine, serverLine, acceptedReport}
-use Rattle.report.specs.working.AfterRun.{Told, jobIn, traceOf}
-use Rattle.report.proofs.ToldLaws.{jobs-told, segments-told, servers-told}
+use Rattle.report.specs.working.AfterRun.{AfterRun, jobIn}
+use Rattle.report.proofs.AfterRunLaws.{jobs-told, segments-told, servers-told}
 
 -- as many as are taken are the same again
 take-counted : (n : ℕ) (l : List Segment) → take (length (take n l)) l ≡ take n l
@@ -27,7 +27,7 @@ take-counted zero l = refl
 take-counted (suc n) [] = refl
 take-counted (suc n) (s ∷ l) = ap (_∷_ s) (take-counted n l)
 
-module _ {file list ends : List ℕ} {segments : ℕ} {records : List Summary} (told : Told file list ends segments records) where
+module _ {file list ends : List ℕ} {segments : ℕ} {records : List Summary} (told : AfterRun file list ends segments records) where
   abbrev w : Work
   w = work file
 

@@ -6,17 +6,15 @@ use Rattle.arrival.specs.declared.Arrival.{Arrival}
 use Rattle.booking.specs.Admission.{shares}
 use Rattle.clock.specs.Clock.{moment, until}
 use Rattle.clock.specs.declared.Moment.{Moment}
-use Rattle.finish.specs.Finish.{Finish, isOpen, at}
+use Rattle.finish.specs.Finish.{Finish, isOpen, finishedAt}
 use Rattle.judgement.specs.Judgement.{judged}
-use Rattle.moments.specs.Moments.{history}
 use Rattle.refusal.specs.Refusals.{Said, refused, gave}
 use Rattle.sizes.specs.Sizes.{mostArrivals, mostShown}
-use Rattle.summary.specs.Summary.{finishes, summaryOf}
+use Rattle.summary.specs.Summary.{traceOf, finishes, summaryOf}
 use Rattle.summary.specs.declared.Response.the-variants.{Absent, Over}
 use Rattle.summary.specs.declared.Response.{Response}
 use Rattle.summary.specs.declared.Summary.{Summary}
 use Rattle.text.specs.Line.{Field, word, number, line, each}
-use Rattle.trace.specs.Trace.{trace}
 use Rattle.trace.specs.declared.Segment.{Segment}
 use Rattle.workfile.specs.Work.{Work, work}
 
@@ -45,7 +43,7 @@ segmentsLine count shown = line "segments" (number count ∷ word "shown" ∷ nu
 -- "finish, response; an open job has `open -` in the last two"; a response is "finish minus arrival moment"
 abbrev pub finishFields : Moment → Finish → List Field
 finishFields came isOpen = word "open" ∷ word "-" ∷ []
-finishFields came (at t) = number t ∷ number (until came (moment t) .ticks) ∷ []
+finishFields came (finishedAt t) = number (t .tick) ∷ number (until came t .ticks) ∷ []
 
 -- "a `job` line for each arrival (number, server, moment, finish, response ..)"
 abbrev pub jobWith : Arrival → ℕ → Finish → List ℕ
@@ -82,7 +80,7 @@ acceptedReport w segments =
 
 abbrev pub reportOf : Said (Unit {0}) → Work → List ℕ
 reportOf (refused n place) w = refusedLine n place
-reportOf (gave u) w = acceptedReport w (trace (history w) (w .horizon .tick))
+reportOf (gave u) w = acceptedReport w (traceOf w)
 
 -- The day report of a file. The run is lent a finish list of 4,096 places, so that 9 cannot occur.
 unfoldable pub dayReport : List ℕ → List ℕ

@@ -7,9 +7,9 @@ ghost use mathlib.Core.Path.{_≡_};
 ghost use Rattle.booking.specs.Admission.{shares};
 ghost use Rattle.books.proofs.Accepted.{Accepted};
 ghost use Rattle.report.specs.DayReport.{acceptedReport, dayReport, segmentLine, serverLine};
-ghost use Rattle.report.specs.working.AfterRun.{Told, jobIn, traceOf};
+ghost use Rattle.report.specs.working.AfterRun.{AfterRun, jobIn};
 ghost use Rattle.sizes.specs.Sizes.{mostArrivals, mostServers, traceNumbers};
-ghost use Rattle.summary.specs.Summary.{blank};
+ghost use Rattle.summary.specs.Summary.{blank, traceOf};
 ghost use Rattle.text.specs.Line.{each};
 ghost use Rattle.text.specs.Page.{added, page};
 ghost use Rattle.trace.specs.Written.{segmentIn};
@@ -20,7 +20,7 @@ use refusal::Verdict;
 use summary::Summary;
 use trace::Segment;
 
-// No report is longer (`report-fits` of specs/LengthLaws.antt).
+// No report is longer (`report-fits` of proofs/LengthLaws.antt).
 pub const MOST_BYTES: usize = 262144;
 
 // The day report of a file, from the start of the text on, as much of it as fits. Answers how many bytes that is.
@@ -60,7 +60,7 @@ fn accepted(
     records: [Summary; sizes::MOST_SERVERS],
     text: &mut [u8],
 ) -> usize
-    requires { ⌜ Told (now file) (now list) (now finishes) segments records ⌝ }
+    requires { ⌜ AfterRun (now file) (now list) (now finishes) segments records ⌝ }
     ensures { λ r. ⌜ page (now (text .exit)) r ≡ added (acceptedReport (work (now (file .entry))) (traceOf (work (now (file .entry))))) (page (now (text .entry)) 0) ⌝ }
 {
     let h = workfile::header_of(file);

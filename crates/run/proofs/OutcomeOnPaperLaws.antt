@@ -6,7 +6,7 @@ use Rattle.refusal.proofs.OnPaperLaws.{verdict-told}
 use Rattle.refusal.specs.declared.Verdict.{Verdict}
 use Rattle.summary.specs.declared.Summary.{Summary}
 use Rattle.run.specs.declared.Ran.{Ran}
-use Rattle.run.specs.Outcome.{Outcome, says}
+use Rattle.run.specs.Outcome.{Outcome, runSays}
 
 -- the two lent lists
 pub record Lists : Type 0 where
@@ -16,12 +16,12 @@ pub record Lists : Type 0 where
 abbrev pub lists : List ℕ → List ℕ → Lists
 lists l e = record { traceList = l; finishList = e }
 
-pub ran-told : (r s : Ran) (l k e f : List ℕ) → says r l e ≡ says s k f → (r ≡ s) × (lists l e ≡ lists k f)
+pub ran-told : (r s : Ran) (l k e f : List ℕ) → runSays r l e ≡ runSays s k f → (r ≡ s) × (lists l e ≡ lists k f)
 ran-told r s l k e f p = (
   ap₂ (λ (v : Verdict) (n : ℕ). record { verdict = v; segments = n; summaries = r .summaries })
       (verdict-told (r .verdict) (s .verdict) (ap (λ (o : Outcome). o .verdict) p))
       (ap (λ (o : Outcome). o .segments) p)
       ∙ ap (λ (m : List Summary). record { verdict = s .verdict; segments = s .segments; summaries = m })
-      (ap (λ (o : Outcome). o .summaries) p),
-  ap (λ (o : Outcome). lists (o .traceList) (o .finishList)) p,
+      (ap (λ (o : Outcome). o .records) p),
+  ap (λ (o : Outcome). lists (o .traceLeft) (o .finishesLeft)) p,
 )

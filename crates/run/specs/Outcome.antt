@@ -2,14 +2,12 @@
 use Prim.Native.Nat.{ℕ}
 use lib.ListN.{length, replicate}
 use mathlib.Core.List.{List}
-use Rattle.finish.specs.Finish as finishes
+use Rattle.finish.specs.Finish.{finishList}
 use Rattle.judgement.specs.Judgement.{judged}
-use Rattle.moments.specs.Moments.{history}
 use Rattle.refusal.specs.Refusals.{Said, refused, gave, accepted, onPaper}
 use Rattle.sizes.specs.Sizes.{mostServers}
-use Rattle.summary.specs.Summary as summary
+use Rattle.summary.specs.Summary.{traceOf, finishes, blank, summaries}
 use Rattle.summary.specs.declared.Summary.{Summary}
-use Rattle.trace.specs.Trace.{trace}
 use Rattle.trace.specs.Written.{written}
 use Rattle.workfile.specs.Work.{Work, work}
 use Rattle.run.specs.declared.Ran.{Ran}
@@ -18,47 +16,30 @@ use Rattle.run.specs.declared.Ran.{Ran}
 pub record Outcome : Type 0 where
   pub verdict : Said (Unit {0})
   pub segments : ℕ
-  pub summaries : List Summary
-  pub traceList : List ℕ
-  pub finishList : List ℕ
+  pub records : List Summary
+  pub traceLeft : List ℕ
+  pub finishesLeft : List ℕ
+
+abbrev pub outcomeOf : Said (Unit {0}) → ℕ → List Summary → List ℕ → List ℕ → Outcome
+outcomeOf v n s list ends = record { verdict = v; segments = n; records = s; traceLeft = list; finishesLeft = ends }
 
 -- an accepted file: the count of all segments, the 64 records, the first segments, and every finish
-abbrev pub accepting : Work → List ℕ → List ℕ → Outcome
-accepting w list ends =
-    record {
-      verdict = accepted;
-      segments = length (trace (history w) (w .horizon .tick));
-      summaries = summary.summaries w;
-      traceList = written (trace (history w) (w .horizon .tick)) list;
-      finishList = finishes.finishList (w .arrivals) (summary.finishes w) ends;
-    }
+abbrev pub acceptedRun : Work → List ℕ → List ℕ → Outcome
+acceptedRun w list ends =
+    outcomeOf accepted (length (traceOf w)) (summaries w) (written (traceOf w) list) (finishList (w .arrivals) (finishes w) ends)
 
 -- a refused one: "changes no dispatcher and no lent list. A refused run also answers 64 blank records and a segment count of 0"
-abbrev pub refusing : ℕ → ℕ → List ℕ → List ℕ → Outcome
-refusing number place list ends =
-    record {
-      verdict = refused number place;
-      segments = 0;
-      summaries = replicate mostServers summary.blank;
-      traceList = list;
-      finishList = ends;
-    }
+abbrev pub refusedRun : ℕ → ℕ → List ℕ → List ℕ → Outcome
+refusedRun number place list ends = outcomeOf (refused number place) 0 (replicate mostServers blank) list ends
 
-abbrev pub outcomeOf : Said (Unit {0}) → Work → List ℕ → List ℕ → Outcome
-outcomeOf (refused number place) w list ends = refusing number place list ends
-outcomeOf (gave u) w list ends = accepting w list ends
+abbrev pub runOf : Said (Unit {0}) → Work → List ℕ → List ℕ → Outcome
+runOf (refused number place) w list ends = refusedRun number place list ends
+runOf (gave u) w list ends = acceptedRun w list ends
 
 -- the run of a file, beside a trace list and a finish list
 unfoldable pub outcome : List ℕ → List ℕ → List ℕ → Outcome
-outcome file list ends = outcomeOf (judged file (length ends)) (work file) list ends
+outcome file list ends = runOf (judged file (length ends)) (work file) list ends
 
 -- what the struct that a run answers says, with the lists after it
-abbrev pub says : Ran → List ℕ → List ℕ → Outcome
-says r list ends =
-    record {
-      verdict = onPaper (r .verdict);
-      segments = r .segments;
-      summaries = r .summaries;
-      traceList = list;
-      finishList = ends;
-    }
+abbrev pub runSays : Ran → List ℕ → List ℕ → Outcome
+runSays r list ends = outcomeOf (onPaper (r .verdict)) (r .segments) (r .summaries) list ends

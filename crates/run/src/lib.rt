@@ -16,10 +16,9 @@ mod tree;
 ghost use mathlib.Core.Path.{_≡_};
 ghost use lib.ListN.{length};
 ghost use Rattle.judgement.specs.Judgement.{judged};
-ghost use Rattle.records.specs.Records.{filled, recordsOf};
 ghost use Rattle.refusal.specs.Refusals.{accepted};
 ghost use Rattle.workfile.specs.Work.{work};
-ghost use Rattle.run.specs.Outcome.{accepting, outcome, says};
+ghost use Rattle.run.specs.Outcome.{acceptedRun, outcome, runSays};
 use refusal::Verdict;
 use summary::Summary;
 
@@ -33,7 +32,7 @@ pub struct Ran {
 // The run of a work file. The trace list gets the first segments, four numbers each, as many whole ones as fit, and the finish list
 // the finish of each arrival; a refusal touches neither.
 pub fn run(file: &[u8], list: &mut [u64], finishes: &mut [u32]) -> Ran
-    ensures { λ r. ⌜ says r (now (list .exit)) (now (finishes .exit)) ≡ outcome (now (file .entry)) (now (list .entry)) (now (finishes .entry)) ⌝ }
+    ensures { λ r. ⌜ runSays r (now (list .exit)) (now (finishes .exit)) ≡ outcome (now (file .entry)) (now (list .entry)) (now (finishes .entry)) ⌝ }
 {
     let verdict = judgement::judge(file, finishes.len());
     let Verdict::Accepted = verdict else {
@@ -49,7 +48,7 @@ pub fn run(file: &[u8], list: &mut [u64], finishes: &mut [u32]) -> Ran
 // The run of an accepted file.
 fn play(file: &[u8], list: &mut [u64], finishes: &mut [u32]) -> Ran
     requires { ⌜ judged (now file) (length (now finishes)) ≡ accepted ⌝ }
-    ensures { λ r. ⌜ says r (now (list .exit)) (now (finishes .exit)) ≡ accepting (work (now (file .entry))) (now (list .entry)) (now (finishes .entry)) ⌝ }
+    ensures { λ r. ⌜ runSays r (now (list .exit)) (now (finishes .exit)) ≡ acceptedRun (work (now (file .entry))) (now (list .entry)) (now (finishes .entry)) ⌝ }
 {
     let went = travel::travel(file, list, finishes);
     let postponed = went.postponed;
@@ -57,24 +56,6 @@ fn play(file: &[u8], list: &mut [u64], finishes: &mut [u32]) -> Ran
     Ran {
         verdict: Verdict::Accepted,
         segments: went.segments,
-        summaries: summaries(file, finishes, &postponed, &interrupted),
+        summaries: records::of_run(file, finishes, &postponed, &interrupted),
     }
-}
-
-// The summaries of a run that has left this finish list and these counts.
-fn summaries(
-    file: &[u8],
-    finishes: &[u32],
-    postponed: &[u64; sizes::MOST_SERVERS],
-    interrupted: &[u64; sizes::MOST_SERVERS],
-) -> [Summary; sizes::MOST_SERVERS]
-    ensures { λ r. ⌜ r ≡ filled (work (now (file .entry)) .table .count) (now (postponed .entry)) (now (interrupted .entry)) (recordsOf (work (now (file .entry))) (now (finishes .entry))) ⌝ }
-{
-    let h = workfile::header_of(file);
-    records::fill(
-        records::of_jobs(file, finishes),
-        h.servers.count,
-        postponed,
-        interrupted,
-    )
 }

@@ -7,7 +7,7 @@ ghost use Rattle.books.proofs.budgets.Budgets.{Able, NoneAbove, currentOn, inte
 ghost use Rattle.books.proofs.spell.Planned.{Planned};
 ghost use Rattle.books.proofs.stretches.Segmented.{withWaits};
 ghost use Rattle.books.proofs.stretches.Turns.{currentThen, interruptedThen, traceThen};
-ghost use Rattle.books.proofs.spell.SpellLeaves.{Went};
+ghost use Rattle.books.proofs.spell.SpellLeaves.{SpellLeaves};
 ghost use Rattle.books.proofs.tree.Winners.{Winners};
 ghost use Rattle.sizes.specs.Sizes.{clockEnd, mostFrame, mostServers};
 use crate::budgets;
@@ -71,7 +71,7 @@ pub(crate) fn go(
     requires { ⌜ getD (now postponed) i 0 ≤ t ⌝ }
     requires { ⌜ length (now interrupted) ≡ mostServers ⌝ }
     requires { ⌜ levels < 6 ⌝ }
-    ensures { λ r. ⌜ Went t i s rest room c (now (keys .entry)) (now (list .entry)) (now (postponed .entry)) (now (interrupted .entry)) (now (keys .exit)) (now (list .exit)) (now (postponed .exit)) (now (interrupted .exit)) (r .current) (r .server) (r .gone) ⌝ }
+    ensures { λ r. ⌜ SpellLeaves t i s rest room c (now (keys .entry)) (now (list .entry)) (now (postponed .entry)) (now (interrupted .entry)) (now (keys .exit)) (now (list .exit)) (now (postponed .exit)) (now (interrupted .exit)) (r .current) (r .server) (r .gone) ⌝ }
 {
     let p = plan(keys, levels, i, s, rest, room);
     let current = pass_through(list, interrupted, c, t, i, s.deadline, p);

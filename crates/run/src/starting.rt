@@ -14,7 +14,7 @@ pub(crate) fn start(file: &[u8]) -> Dispatcher
     let frame = h.frame;
     let count = h.servers.count;
     let offset = h.servers.offset;
-    let mut servers = [server::blank(); sizes::MOST_SERVERS];
+    let mut servers = [server::vacant(); sizes::MOST_SERVERS];
     let mut k = 0;
     while k < count {
         servers[k] = server::fresh(reader::booking_from(file, offset, sizes::SERVER_BYTES * k));

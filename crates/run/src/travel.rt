@@ -3,7 +3,7 @@ ghost use Prim.Native.Nat.{_≤_, _<_};
 ghost use lib.ListN.{length};
 ghost use mathlib.Core.Path.{_≡_};
 ghost use Rattle.books.proofs.Accepted.{Accepted};
-ghost use Rattle.books.proofs.travel.AtHorizon.{Came};
+ghost use Rattle.books.proofs.travel.AtHorizon.{AtHorizon};
 ghost use Rattle.books.proofs.jobs.Lined.{Lined};
 ghost use Rattle.finish.specs.Finish.{finishList, isOpen};
 ghost use Rattle.moments.specs.Moments.{atMoment};
@@ -28,7 +28,7 @@ pub struct Travelled {
 pub(crate) fn travel(file: &[u8], list: &mut [u64], finishes: &mut [u32]) -> Travelled
     requires { ⌜ Accepted (now file) ⌝ }
     requires { ⌜ work (now file) .arrivals ≤ length (now finishes) ⌝ }
-    ensures { λ r. ⌜ Came (work (now (file .entry))) (now (list .entry)) (now (finishes .entry)) (now (list .exit)) (now (finishes .exit)) (r .segments) (r .postponed) (r .interrupted) ⌝ }
+    ensures { λ r. ⌜ AtHorizon (work (now (file .entry))) (now (list .entry)) (now (finishes .entry)) (now (list .exit)) (now (finishes .exit)) (r .segments) (r .postponed) (r .interrupted) ⌝ }
 {
     let h = workfile::header_of(file);
     let arrivals = h.arrivals.count;
@@ -70,7 +70,7 @@ fn to_horizon(
     requires { ⌜ d ≡ atMoment (work (now file)) 0 ⌝ }
     requires { ⌜ Lined (work (now file)) 0 (now job) (now behind) ⌝ }
     requires { ⌜ levels < 6 ⌝ }
-    ensures { λ r. ⌜ Came (work (now (file .entry))) (now (list .entry)) (now (finishes .entry)) (now (list .exit)) (now (finishes .exit)) (r .segments) (r .postponed) (r .interrupted) ⌝ }
+    ensures { λ r. ⌜ AtHorizon (work (now (file .entry))) (now (list .entry)) (now (finishes .entry)) (now (list .exit)) (now (finishes .exit)) (r .segments) (r .postponed) (r .interrupted) ⌝ }
 {
     // The winner tree, in which an idle server has the last number of all for its key.
     let mut keys = [clock::LAST_TICK; 128];

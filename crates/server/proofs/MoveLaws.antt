@@ -5,13 +5,14 @@ use lib.Dec.{eqb, leb}
 use mathlib.Core.Bool.{Bool, true, false, cond, _||_}
 use mathlib.Core.Path.{_≡_, refl}
 use native.Mathlib.Omega.{arith}
+use Rattle.booking.specs.declared.Booking.{Booking}
 use Rattle.clock.specs.Clock.{until}
 use Rattle.clock.specs.declared.Length.{Length}
 use Rattle.clock.specs.declared.Moment.{Moment}
 use Rattle.counting.proofs.TestLaws.{not-both, or-true, or-false}
 use Rattle.server.specs.declared.Server.{Server}
 use Rattle.server.specs.Moves.{renews, renewed, withWork, arrived, oneTickLess, postponed, spent, served}
-use Rattle.server.specs.Server.{bookingOf, idle}
+use Rattle.server.specs.Server.{idle}
 
 -- "d is at or before t"
 pub renews-passed : (s : Server) (t : Moment) → s .deadline .tick ≤ t .tick → renews s t ≡ true
@@ -65,7 +66,10 @@ arrived-waiting s t cost = go (eqb (s .waiting .ticks) 0) (renews s t)
     go true false = refl
     go false k = refl
 
--- no move alters a booking
+-- the booking of a server: no move alters it
+abbrev pub bookingOf : Server → Booking
+bookingOf s = record { budget = s .budget; period = s .period }
+
 pub arrived-booking : (s : Server) (t : Moment) (cost : Length) → bookingOf (arrived s t cost) ≡ bookingOf s
 unfolding arrived
 arrived-booking s t cost = go (idle s) (renews s t)

@@ -2,10 +2,10 @@
 use Rattle.outcome.specs.OneOutcome.{OneOutcome}
 use Rattle.outcome.proofs.OneOutcomeLaws.{both-are}
 use Rattle.server.proofs.fresh.Reads as fresh
-use Rattle.server.proofs.blank.Reads as blank
+use Rattle.server.proofs.vacant.Reads as vacant
 
 pub fresh-one : OneOutcome fresh.Post
 fresh-one l a x y at-x at-y p q = both-are p q
 
-pub blank-one : OneOutcome blank.Post
-blank-one l a x y at-x at-y p q = both-are p q
+pub vacant-one : OneOutcome vacant.Post
+vacant-one l a x y at-x at-y p q = both-are p q

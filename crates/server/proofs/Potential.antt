@@ -11,7 +11,8 @@ use Rattle.clock.specs.declared.Length.{Length}
 use Rattle.clock.specs.declared.Moment.{Moment}
 use Rattle.server.specs.declared.Server.{Server}
 use Rattle.server.specs.Moves.{arrived}
-use Rattle.server.specs.Server.{bookingOf, idle}
+use Rattle.server.specs.Server.{idle}
+use Rattle.server.proofs.MoveLaws.{bookingOf}
 
 -- A server rests that is idle, or that is held back with its budget at 0 until its deadline, which is ahead of t.
 abbrev pub Rests : Moment → Server → Type 0

@@ -13,11 +13,11 @@ use Rattle.clock.specs.Clock.{ticks, until}
 use Rattle.clock.specs.declared.Length.{Length}
 use Rattle.clock.specs.declared.Moment.{Moment}
 use Rattle.server.specs.declared.Server.{Server}
-use Rattle.server.proofs.MoveLaws.{keeps-ahead, renews-is}
+use Rattle.server.proofs.MoveLaws.{bookingOf, keeps-ahead, renews-is}
 use Rattle.server.specs.Moves.{renews, renewed, withWork, arrived, oneTickLess, postponed, spent, served}
 use Rattle.server.proofs.Potential.{Rests, HasBudgetOrRests, ownShare, owed, potential}
 use Rattle.server.specs.Ranges.{Ranged}
-use Rattle.server.specs.Server.{bookingOf, idle}
+use Rattle.server.specs.Server.{idle}
 
 -- A server that renews has c × T of at least (d − t) × Q; one that keeps has less.
 module _ (s : Server) (t : Moment) where

@@ -6,7 +6,7 @@ use Rattle.clock.specs.Clock.{later, until, ticks}
 use Rattle.clock.specs.declared.Length.{Length}
 use Rattle.clock.specs.declared.Moment.{Moment}
 use Rattle.server.specs.declared.Server.{Server}
-use Rattle.server.specs.Server.{idle}
+use Rattle.server.specs.Server.{holding, idle}
 
 -- Step 1. "If the server is idle it wakes: if c × T is at least (d − t) × Q, or d is at or before t, then d becomes t + T and c
 -- becomes Q; otherwise c and d are kept. Then w grows by the cost. A busy server only gets the work."
@@ -17,39 +17,17 @@ renews s t =
     leb (until t (s .deadline) .ticks * s .budget .ticks) (s .remaining .ticks * s .period .ticks)
     || leb (s .deadline .tick) (t .tick)
 
--- the server with a full budget up to another deadline: "c becomes Q"
-abbrev pub refilled : Server → Moment → Server
-refilled s deadline =
-    record {
-      budget = s .budget;
-      period = s .period;
-      remaining = s .budget;
-      deadline = deadline;
-      waiting = s .waiting;
-    }
-
 -- "d becomes t + T and c becomes Q"
 abbrev pub renewed : Server → Moment → Server
-renewed s t = refilled s (later t (s .period))
+renewed s t = holding s (s .budget) (later t (s .period)) (s .waiting)
 
 -- "otherwise c and d are kept"
 abbrev pub woken : Server → Moment → Server
 woken s t = cond (renews s t) (renewed s t) s
 
--- the server with so much work waiting
-abbrev pub withWaiting : Server → Length → Server
-withWaiting s w =
-    record {
-      budget = s .budget;
-      period = s .period;
-      remaining = s .remaining;
-      deadline = s .deadline;
-      waiting = w;
-    }
-
 -- "Then w grows by the cost."
 abbrev pub withWork : Server → Length → Server
-withWork s cost = withWaiting s (ticks (s .waiting .ticks + cost .ticks))
+withWork s cost = holding s (s .remaining) (s .deadline) (ticks (s .waiting .ticks + cost .ticks))
 
 -- the whole step: "If the server is idle it wakes"; "A busy server only gets the work."
 unfoldable pub arrived : Server → Moment → Length → Server
@@ -60,18 +38,11 @@ arrived s t cost = withWork (cond (idle s) (woken s t) s) cost
 
 -- "loses one from w and one from c"
 abbrev pub oneTickLess : Server → Server
-oneTickLess s =
-    record {
-      budget = s .budget;
-      period = s .period;
-      remaining = ticks (s .remaining .ticks - 1);
-      deadline = s .deadline;
-      waiting = ticks (s .waiting .ticks - 1);
-    }
+oneTickLess s = holding s (ticks (s .remaining .ticks - 1)) (s .deadline) (ticks (s .waiting .ticks - 1))
 
 -- "c becomes Q and d grows by T"
 abbrev pub postponed : Server → Server
-postponed s = refilled s (later (s .deadline) (s .period))
+postponed s = holding s (s .budget) (later (s .deadline) (s .period)) (s .waiting)
 
 -- "If c is now 0"
 abbrev pub spent : Server → Bool

@@ -1,7 +1,7 @@
 // A server: its booking, and what it holds from one moment to the next. How a moment changes it is defined in `specs/`;
 // the moves that do so are those of `steps`, and the dispatcher's.
 ghost use mathlib.Core.Path.{_≡_};
-ghost use Rattle.server.specs.Server.{fresh, blank};
+ghost use Rattle.server.specs.Server.{fresh, vacant};
 use booking::Booking;
 use clock::Length;
 use clock::Moment;
@@ -35,8 +35,8 @@ pub fn fresh(b: Booking) -> Server
 }
 
 // What stands at a place behind the servers: every number is 0.
-pub fn blank() -> Server
-    ensures { λ r. ⌜ r ≡ blank ⌝ }
+pub fn vacant() -> Server
+    ensures { λ r. ⌜ r ≡ vacant ⌝ }
 {
     let none = Length { ticks: 0 };
     fresh(Booking {

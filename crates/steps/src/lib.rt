@@ -5,7 +5,7 @@ mod arriving;
 mod fitting;
 
 ghost use mathlib.Core.Path.{_≡_};
-ghost use Rattle.server.specs.Moves.{refilled};
+ghost use Rattle.server.specs.Server.{holding};
 ghost use Rattle.steps.specs.Steps.{afterArrival, afterTick};
 use clock::Length;
 use clock::Moment;
@@ -48,7 +48,7 @@ pub fn serve(s: Server) -> Server
 
 // What a server that is renewed and one that is postponed have in common: a full budget up to another deadline.
 fn refill(mut s: Server, deadline: Moment) -> Server
-    ensures { λ r. ⌜ r ≡ refilled s deadline ⌝ }
+    ensures { λ r. ⌜ r ≡ holding s (s .budget) deadline (s .waiting) ⌝ }
 {
     let budget = s.budget;
     s.remaining = budget;

@@ -8,11 +8,12 @@ use mathlib.Core.Path.{_≡_, refl, _∙_, ap, ap₂}
 use native.Mathlib.Decide.{ℕ-discrete}
 use native.Mathlib.Nat.{mul-le-mul-right}
 use native.Mathlib.Omega.{arith}
-use Rattle.clock.specs.Clock.{moment, ticks, until}
+use Rattle.clock.specs.Clock.{ticks, until}
 use Rattle.clock.specs.declared.Length.{Length}
+use Rattle.clock.specs.declared.Moment.{Moment}
 use Rattle.counting.proofs.TotalsLaws.{total-append, longest-append, total-le}
 use Rattle.counting.specs.Totals.{total, longest}
-use Rattle.finish.specs.Finish.{Finish, isOpen, at}
+use Rattle.finish.specs.Finish.{Finish, isOpen, finishedAt}
 use Rattle.workfile.specs.Work.{Work}
 use Rattle.summary.specs.declared.Response.{Response}
 use Rattle.summary.specs.declared.Response.the-variants.{Absent, Over}
@@ -71,8 +72,8 @@ module _ (w : Work) (f : ℕ → Finish) (i k : ℕ) where
     unfolding responsesOf
     responses-open e = rw (adds-own w i k (f k) own, e) (append-nil _)
 
-    pub responses-at : (t : ℕ) → f k ≡ at t
-        → responsesOf w f i (suc k) ≡ responsesOf w f i k ++ until (w .arrival k .moment) (moment t) .ticks ∷ []
+    pub responses-at : (t : Moment) → f k ≡ finishedAt t
+        → responsesOf w f i (suc k) ≡ responsesOf w f i k ++ until (w .arrival k .moment) t .ticks ∷ []
     unfolding responsesOf
     responses-at t e = rw (adds-own w i k (f k) own, e)
 
@@ -119,7 +120,7 @@ adds-few w i k x = go (ℕ-discrete (w .arrival k .server) i) x
   where
     go : Dec (w .arrival k .server ≡ i) → (x : Finish) → length (adds w i k x) ≤ 1
     go (yes own) isOpen = rw (eq-eqb (w .arrival k .server) i own) (omega arith)
-    go (yes own) (at t) = rw (eq-eqb (w .arrival k .server) i own) (omega arith)
+    go (yes own) (finishedAt t) = rw (eq-eqb (w .arrival k .server) i own) (omega arith)
     go (no other) x = rw (ne-eqb (w .arrival k .server) i other) (omega arith)
 
 pub few-upto : (w : Work) (f : ℕ → Finish) (i n : ℕ) → length (responsesOf w f i n) ≤ n

@@ -5,11 +5,11 @@ use lib.Dec.{eqb, ltb}
 use lib.ListN.{length}
 use mathlib.Core.Bool.{Bool, cond, _&&_}
 use mathlib.Core.List.{List, [], _∷_, _++_}
-use Rattle.clock.specs.Clock.{moment, ticks, until}
+use Rattle.clock.specs.Clock.{ticks, until}
 use Rattle.counting.specs.Count.{count}
 use Rattle.counting.specs.Places.{places}
 use Rattle.counting.specs.Totals.{total, longest}
-use Rattle.finish.specs.Finish.{Finish, isOpen, at, finish}
+use Rattle.finish.specs.Finish.{Finish, isOpen, finishedAt, finish}
 use Rattle.moments.specs.Moments.{history, postponedBy, waitingAt}
 use Rattle.sizes.specs.Sizes.{mostServers}
 use Rattle.trace.specs.Ticks.{endOf}
@@ -20,6 +20,13 @@ use Rattle.summary.specs.declared.Response.{Response}
 use Rattle.summary.specs.declared.Response.the-variants.{Absent, Over}
 use Rattle.summary.specs.declared.Summary.{Summary}
 
+-- The run of a work to its horizon: its trace, and the finish of each job.
+abbrev pub traceOf : Work → List Segment
+traceOf w = trace (history w) (w .horizon .tick)
+
+abbrev pub finishes : Work → ℕ → Finish
+finishes w k = finish w (history w) (w .horizon .tick) k
+
 -- "A blank record has every count 0 and the response absent."
 abbrev pub blank : Summary
 blank = record { arrived = 0; finished = 0; postponed = 0; interrupted = 0; response = Absent }
@@ -27,7 +34,7 @@ blank = record { arrived = 0; finished = 0; postponed = 0; interrupted = 0; resp
 -- "A job's response is finish minus arrival moment"; an open job has none
 abbrev pub responseOf : Work → ℕ → Finish → List ℕ
 responseOf w k isOpen = []
-responseOf w k (at t) = until (w .arrival k .moment) (moment t) .ticks ∷ []
+responseOf w k (finishedAt t) = until (w .arrival k .moment) t .ticks ∷ []
 
 -- "either absent, when nothing finished, or a total and a longest"
 unfoldable pub responseIn : List ℕ → Response
@@ -67,22 +74,16 @@ leavesWork w i s = eqb (s .server) i && ltb 0 (waitingAt w i (endOf s .tick))
 
 -- "Interrupted counts the segments that end before N" and leave work so
 unfoldable pub interruptedOf : Work → ℕ → ℕ
-interruptedOf w i =
-    howMany (λ s. ltb (endOf s .tick) (w .horizon .tick) && leavesWork w i s) (trace (history w) (w .horizon .tick))
+interruptedOf w i = howMany (λ s. ltb (endOf s .tick) (w .horizon .tick) && leavesWork w i s) (traceOf w)
 
--- the finishes of a work's run to its horizon
-abbrev pub finishes : Work → ℕ → Finish
-finishes w k = finish w (history w) (w .horizon .tick) k
+-- the record of server i, by the finish of each job and by how often it was postponed and interrupted
+abbrev pub summaryBy : Work → (ℕ → Finish) → (postponed interrupted : ℕ) → ℕ → Summary
+summaryBy w f p q i =
+    record { arrived = arrivedOf w i; finished = finishedOf w f i; postponed = p; interrupted = q; response = responses w f i }
 
+-- of a work's run to its horizon
 unfoldable pub summaryOf : Work → ℕ → Summary
-summaryOf w i =
-    record {
-      arrived = arrivedOf w i;
-      finished = finishedOf w (finishes w) i;
-      postponed = postponedBy w i (w .horizon .tick);
-      interrupted = interruptedOf w i;
-      response = responses w (finishes w) i;
-    }
+summaryOf w i = summaryBy w (finishes w) (postponedBy w i (w .horizon .tick)) (interruptedOf w i) i
 
 -- all 64
 unfoldable pub summaries : Work → List Summary

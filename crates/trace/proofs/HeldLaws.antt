@@ -8,9 +8,9 @@ use native.Mathlib.Omega.{arith}
 use Rattle.counting.proofs.SumLaws.{sum-front}
 use Rattle.counting.specs.Sum.{sum}
 use Rattle.trace.specs.declared.Segment.{Segment}
-use Rattle.trace.specs.Segments.{Every}
+use Rattle.trace.specs.Segments.{EverySegment}
 use Rattle.trace.proofs.SegmentLaws.{every-at}
-use Rattle.trace.specs.Ticks.{added}
+use Rattle.trace.specs.Ticks.{sumOver}
 use Rattle.trace.specs.Written.{segmentIn, written}
 
 -- segment k stands in the list where it fits
@@ -33,13 +33,13 @@ segment-at (s ∷ tr) (a ∷ b ∷ c ∷ e ∷ list) (suc k) d h fits =
     none = omega arith
 
 -- what every segment has, each that a lent list holds has
-pub held-has : (P : Segment → Type 0) (tr : List Segment) (list : List ℕ) → Every P tr
+pub held-has : (P : Segment → Type 0) (tr : List Segment) (list : List ℕ) → EverySegment P tr
     → (k : ℕ) → k < length tr → 4 * k + 4 ≤ length list → P (segmentIn (written tr list) k)
 held-has P tr list x k h fits = subst⁻¹ P (segment-at tr list k (segmentIn [] 0) h fits) (every-at P tr (segmentIn [] 0) x k h)
 
 -- the first n of a list add up to no more than all
-pub added-first : (f : Segment → ℕ) (l : List Segment) (d : Segment) (n : ℕ) → n ≤ length l → sum n (λ k. f (getD l k d)) ≤ added f l
-unfolding sum added
+pub added-first : (f : Segment → ℕ) (l : List Segment) (d : Segment) (n : ℕ) → n ≤ length l → sum n (λ k. f (getD l k d)) ≤ sumOver f l
+unfolding sum sumOver
 added-first f l d zero h = omega arith
 added-first f [] d (suc n) h = absurd (not-suc-le-zero h)
 added-first f (s ∷ l) d (suc n) h = omega (arith, sum-front n (λ k. f (getD (s ∷ l) k d)), added-first f l d n (le-of-suc-le-suc h))
@@ -54,6 +54,6 @@ held-sum f tr list d (suc n) h fits =
 
 -- and so to no more than all
 pub held-added : (f : Segment → ℕ) (tr : List Segment) (list : List ℕ) (n : ℕ) → n ≤ length tr → 4 * n ≤ length list
-    → sum n (λ k. f (segmentIn (written tr list) k)) ≤ added f tr
+    → sum n (λ k. f (segmentIn (written tr list) k)) ≤ sumOver f tr
 held-added f tr list n h fits =
     omega (arith, held-sum f tr list (segmentIn [] 0) n h fits, added-first f tr (segmentIn [] 0) n h)

@@ -17,25 +17,25 @@ use Rattle.trace.specs.declared.Segment.{Segment}
 use Rattle.trace.proofs.StretchLaws.{Alike}
 use Rattle.trace.specs.Trace.{begins, lasting, segmentsOf, begun, trace}
 use Rattle.trace.proofs.TraceLaws.{differs}
-use Rattle.trace.specs.Segments.{Every, Stretch}
+use Rattle.trace.specs.Segments.{EverySegment, Stretch}
 
-every-append : (P : Segment → Type 0) (a b : List Segment) → Every P a → Every P b → Every P (a ++ b)
+every-append : (P : Segment → Type 0) (a b : List Segment) → EverySegment P a → EverySegment P b → EverySegment P (a ++ b)
 every-append P [] b x y = y
 every-append P (s ∷ a) b x y = (x .0, every-append P a b (x .1) y)
 
 -- the first n of a list all of whose segments have P
-pub every-take : (P : Segment → Type 0) (n : ℕ) (l : List Segment) → Every P l → Every P (take n l)
+pub every-take : (P : Segment → Type 0) (n : ℕ) (l : List Segment) → EverySegment P l → EverySegment P (take n l)
 every-take P zero l x = tt
 every-take P (suc n) [] x = tt
 every-take P (suc n) (s ∷ l) x = (x .0, every-take P n l (x .1))
 
 -- what follows for each of them
-pub every-map : {P Q : Segment → Type 0} → ((s : Segment) → P s → Q s) → (l : List Segment) → Every P l → Every Q l
+pub every-map : {P Q : Segment → Type 0} → ((s : Segment) → P s → Q s) → (l : List Segment) → EverySegment P l → EverySegment Q l
 every-map f [] x = tt
 every-map f (s ∷ l) x = (f s (x .0), every-map f l (x .1))
 
 -- the one at place k of it
-pub every-at : (P : Segment → Type 0) (l : List Segment) (d : Segment) → Every P l → (k : ℕ) → k < length l → P (getD l k d)
+pub every-at : (P : Segment → Type 0) (l : List Segment) (d : Segment) → EverySegment P l → (k : ℕ) → k < length l → P (getD l k d)
 every-at P [] d x k h = absurd (not-suc-le-zero h)
 every-at P (s ∷ l) d x zero h = x .0
 every-at P (s ∷ l) d x (suc k) h = every-at P l d (x .1) k (le-of-suc-le-suc h)
@@ -82,21 +82,21 @@ module _ (h : History) (N : ℕ) where
 
   -- what the segment of any stretch before N has, every segment has
   pub begun-every : (P : Segment → Type 0)
-      → ((b k : ℕ) → 1 ≤ k → b + k ≤ N → Alike h b k → Every P (segmentsOf (h b) b k))
-      → (t : ℕ) → t ≤ N → Every P (begun h N t)
+      → ((b k : ℕ) → 1 ≤ k → b + k ≤ N → Alike h b k → EverySegment P (segmentsOf (h b) b k))
+      → (t : ℕ) → t ≤ N → EverySegment P (begun h N t)
   unfolding begun
   begun-every P has zero le = tt
   begun-every P has (suc t) le =
       every-append P (begun h N t) _ (begun-every P has t (omega arith)) (go (begins h t))
     where
-      go : (b : Bool) → Every P (cond b (segmentsOf (h t) t (lasting h N t)) [])
+      go : (b : Bool) → EverySegment P (cond b (segmentsOf (h t) t (lasting h N t)) [])
       go true = has t (lasting h N t) (lasting-some t le) (lasting-ends t le) (lasting-all t le)
       go false = tt
 
 -- every one of them has it
-pub trace-stretches : (h : History) (N : ℕ) → Every (Stretch h N) (trace h N)
+pub trace-stretches : (h : History) (N : ℕ) → EverySegment (Stretch h N) (trace h N)
 trace-stretches h N = begun-every h N (Stretch h N) (λ b k some ends all. go b k some ends (h b) all) N (omega arith)
   where
-    go : (b k : ℕ) → 1 ≤ k → b + k ≤ N → (c : Choice) → ((q : ℕ) → q < k → h (b + q) ≡ c) → Every (Stretch h N) (segmentsOf c b k)
+    go : (b k : ℕ) → 1 ≤ k → b + k ≤ N → (c : Choice) → ((q : ℕ) → q < k → h (b + q) ≡ c) → EverySegment (Stretch h N) (segmentsOf c b k)
     go b k some ends nobody all = tt
     go b k some ends (given i d) all = (record { some = some; ends = ends; all = all }, tt)

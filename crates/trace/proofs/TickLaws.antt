@@ -11,13 +11,13 @@ use Rattle.counting.specs.Count.{count}
 use Rattle.history.specs.Choice.{Choice, nobody, given, History}
 use Rattle.trace.specs.declared.Segment.{Segment}
 use Rattle.trace.proofs.StretchLaws.{by-stretches}
-use Rattle.trace.specs.Ticks.{ticksOf, added}
+use Rattle.trace.specs.Ticks.{ticksOf, sumOver}
 use Rattle.trace.specs.Trace.{segmentsOf, begun, trace}
 use Rattle.trace.proofs.TraceLaws.{trace-stretch}
 
 -- two lists add up to what each does
-added-append : (f : Segment → ℕ) (l m : List Segment) → added f (l ++ m) ≡ added f l + added f m
-unfolding added
+added-append : (f : Segment → ℕ) (l m : List Segment) → sumOver f (l ++ m) ≡ sumOver f l + sumOver f m
+unfolding sumOver
 added-append f [] m = omega arith
 added-append f (s ∷ l) m = omega (arith, added-append f l m)
 
@@ -32,8 +32,8 @@ module _ (h : History) (p : Choice → Bool) (idle : p nobody ≡ false) (a : Mo
   inside e k = min k (e + k - a .tick)
 
   -- what their segment adds
-  segments-added : (x : Choice) (e k : ℕ) → added (ticksOf p a) (segmentsOf x e k) ≡ cond (p x) (inside e k) 0
-  unfolding added
+  segments-added : (x : Choice) (e k : ℕ) → sumOver (ticksOf p a) (segmentsOf x e k) ≡ cond (p x) (inside e k) 0
+  unfolding sumOver
   segments-added nobody e k = rw idle
   segments-added (given i d) e k = add-zero _
 
@@ -50,12 +50,12 @@ module _ (h : History) (p : Choice → Bool) (idle : p nobody ≡ false) (a : Mo
       go false so = count-none (e - a .tick) (inside e k) passes (λ q b. each q b ∙ so) ∙ sym (add-zero _)
 
   -- the ticks of the segments that pass are as many as the moments whose tick passes
-  pub trace-counted : (N : ℕ) → added (ticksOf p a) (trace h N) ≡ count (N - a .tick) (λ q. p (h (a .tick + q)))
-  unfolding added begun
+  pub trace-counted : (N : ℕ) → sumOver (ticksOf p a) (trace h N) ≡ count (N - a .tick) (λ q. p (h (a .tick + q)))
+  unfolding sumOver begun
   trace-counted =
-      by-stretches h (λ (N : ℕ). added (ticksOf p a) (trace h N) ≡ count (N - a .tick) passes)
+      by-stretches h (λ (N : ℕ). sumOver (ticksOf p a) (trace h N) ≡ count (N - a .tick) passes)
       (sym (ap (λ (n : ℕ). count n passes) (omega arith) ∙ count-empty passes))
-      (λ e k begin all so. ap (added (ticksOf p a)) (trace-stretch h e k (h e) all begin)
+      (λ e k begin all so. ap (sumOver (ticksOf p a)) (trace-stretch h e k (h e) all begin)
       ∙ added-append (ticksOf p a) (trace h e) (segmentsOf (h e) e (suc k))
       ∙ ap₂ _+_ so (segments-added (h e) e (suc k))
       ∙ sym (alike-counted (h e) e (suc k) all))

@@ -7,9 +7,9 @@ use Rattle.history.specs.Choice.{given, History}
 use Rattle.trace.specs.declared.Segment.{Segment}
 
 -- every segment of a list has P
-abbrev pub Every : (Segment → Type 0) → List Segment → Type 0
-Every P [] = Unit {0}
-Every P (s ∷ more) = P s × Every P more
+abbrev pub EverySegment : (Segment → Type 0) → List Segment → Type 0
+EverySegment P [] = Unit {0}
+EverySegment P (s ∷ more) = P s × EverySegment P more
 
 -- What a segment of a trace has: some ticks before the horizon, all given to its server under its deadline.
 pub record Stretch (h : History) (N : ℕ) (s : Segment) : Type 0 where

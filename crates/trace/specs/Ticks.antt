@@ -20,6 +20,6 @@ abbrev pub ticksOf : (Choice → Bool) → Moment → Segment → ℕ
 ticksOf p a s = cond (p (given (s .server) (s .deadline))) (ticksFrom a s) 0
 
 -- a number for each segment, added up
-unfoldable pub added : (Segment → ℕ) → List Segment → ℕ
-added f [] = 0
-added f (s ∷ more) = f s + added f more
+unfoldable pub sumOver : (Segment → ℕ) → List Segment → ℕ
+sumOver f [] = 0
+sumOver f (s ∷ more) = f s + sumOver f more

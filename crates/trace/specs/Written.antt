@@ -26,15 +26,13 @@ written (s ∷ more) (a ∷ b ∷ c ∷ []) = a ∷ b ∷ c ∷ []
 abbrev pub fitting : ℕ → List ℕ → ℕ
 fitting segments list = min segments (length list / 4)
 
+-- the segment of four such numbers
+abbrev pub segmentOf : (start length server deadline : ℕ) → Segment
+segmentOf a k i d = record { start = moment a; length = ticks k; server = i; deadline = moment d }
+
 -- the segment in places 4 × k on of a trace list
 abbrev pub segmentIn : List ℕ → ℕ → Segment
-segmentIn list k =
-    record {
-      start = moment (getD list (4 * k) 0);
-      length = ticks (getD list (4 * k + 1) 0);
-      server = getD list (4 * k + 2) 0;
-      deadline = moment (getD list (4 * k + 3) 0);
-    }
+segmentIn list k = segmentOf (getD list (4 * k) 0) (getD list (4 * k + 1) 0) (getD list (4 * k + 2) 0) (getD list (4 * k + 3) 0)
 
 -- place p of a list with segment k in its four places, from 4 × k on; any other place is untouched
 abbrev pub placed : ℕ → Segment → List ℕ → ℕ → ℕ

@@ -5,7 +5,7 @@ use mathlib.Core.Path.{_≡_, sym, _∙_}
 use native.Mathlib.Omega.{arith}
 use Rattle.booking.proofs.share_of.Statement.{statement}
 use Rattle.booking.proofs.share_of.Tie as tie
-use Rattle.booking.specs.Share.{faulty}
+use Rattle.booking.specs.Share.{faultyBooking}
 use Rattle.booking.proofs.ShareLaws.{Sound, sound, share-le-frame}
 
 is-faulty-requires : tie.Need-is-faulty-requires
@@ -14,7 +14,7 @@ is-faulty-requires c κs = search needs
 returns : tie.Need-returns
 returns c = rw (sym (c .before .is-faulty .ensures) ∙ c .if1 .taken)
 
-no-fault : (c : tie.Else1) → faulty (c .before .before .args .frame) (c .before .before .args .b) ≡ false
+no-fault : (c : tie.Else1) → faultyBooking (c .before .before .args .frame) (c .before .before .args .b) ≡ false
 no-fault c = sym (c .before .is-faulty .ensures) ∙ c .if1 .left
 
 good : (c : tie.Else1) → Sound (c .before .before .args .frame) (c .before .before .args .b)

@@ -9,11 +9,12 @@ use mathlib.Core.Path.{_≡_, refl, sym, _∙_, ap, ap₂, subst, subst⁻¹}
 use native.Mathlib.Decide.{ℕ-discrete}
 use native.Mathlib.Omega.{arith}
 use Rattle.clock.specs.Clock.{later, moment, ticks}
+use Rattle.dispatcher.specs.Moves.{standing}
 use Rattle.dispatcher.specs.Pick.{serverAt, Earliest}
 use Rattle.dispatcher.specs.declared.Dispatcher.{Dispatcher}
 use Rattle.moments.proofs.OneGo.{servedFor, ranFor}
 use Rattle.moments.proofs.OneGoLaws.{served-spent}
-use Rattle.server.specs.Server.{blank, idle}
+use Rattle.server.specs.Server.{vacant, idle, holding}
 use Rattle.server.specs.declared.Server.{Server}
 use Rattle.sizes.specs.Sizes.{clockEnd, mostFrame}
 use Rattle.books.specs.declared.Current.{Current}
@@ -24,24 +25,12 @@ use Rattle.books.proofs.tree.Winners.{keyAt}
 
 -- a server with a full budget, n budgets later
 unfoldable pub budgetsOn : Server → ℕ → Server
-budgetsOn s n =
-    record {
-      budget = s .budget;
-      period = s .period;
-      remaining = s .remaining;
-      deadline = moment (s .deadline .tick + n * s .period .ticks);
-      waiting = ticks (s .waiting .ticks - n * s .budget .ticks);
-    }
+budgetsOn s n = holding s (s .remaining) (moment (s .deadline .tick + n * s .period .ticks)) (ticks (s .waiting .ticks - n * s .budget .ticks))
 
 -- the dispatcher then
 unfoldable pub ranBudgets : Dispatcher → ℕ → ℕ → Dispatcher
 ranBudgets d i n =
-    record {
-      frame = d .frame;
-      count = d .count;
-      clock = later (d .clock) (ticks (n * serverAt d i .budget .ticks));
-      servers = set (d .servers) i (budgetsOn (serverAt d i) n);
-    }
+    standing d (later (d .clock) (ticks (n * serverAt d i .budget .ticks))) (set (d .servers) i (budgetsOn (serverAt d i) n))
 
 -- and the stretch that a run is in, the lent list and the interruptions: each budget is a stretch of its own
 unfoldable pub currentOn : Current → ℕ → ℕ → Server → ℕ → Current
@@ -135,18 +124,18 @@ still-works s n less = ne-eqb (s .waiting .ticks - n * s .budget .ticks) 0 (omeg
 module _ (d : Dispatcher) (i : ℕ) (here : i < length (d .servers)) where
   pub on-own : (n : ℕ) → serverAt (ranBudgets d i n) i ≡ budgetsOn (serverAt d i) n
   unfolding ranBudgets
-  on-own n = getD-set-same (d .servers) i (budgetsOn (serverAt d i) n) blank here
+  on-own n = getD-set-same (d .servers) i (budgetsOn (serverAt d i) n) vacant here
 
   pub on-other : (n j : ℕ) → (j ≡ i → ⊥) → serverAt (ranBudgets d i n) j ≡ serverAt d j
   unfolding ranBudgets
-  on-other n j other = getD-set-other (d .servers) i j (budgetsOn (serverAt d i) n) blank other
+  on-other n j other = getD-set-other (d .servers) i j (budgetsOn (serverAt d i) n) vacant other
 
   pub on-none : ranBudgets d i 0 ≡ d
   unfolding ranBudgets
   on-none =
-      ap₂ (λ (t : ℕ) (l : List Server). record { frame = d .frame; count = d .count; clock = moment t; servers = l })
+      ap₂ (λ (t : ℕ) (l : List Server). standing d (moment t) l)
       clock-none
-      (ap (set (d .servers) i) (budgets-none (serverAt d i)) ∙ set-getD (d .servers) i blank)
+      (ap (set (d .servers) i) (budgets-none (serverAt d i)) ∙ set-getD (d .servers) i vacant)
     where
       clock-none : d .clock .tick + 0 * serverAt d i .budget .ticks ≡ d .clock .tick
       clock-none = omega arith
@@ -155,7 +144,7 @@ module _ (d : Dispatcher) (i : ℕ) (here : i < length (d .servers)) where
       → ranFor (ranBudgets d i n) i (serverAt d i .budget .ticks) ≡ ranBudgets d i (suc n)
   unfolding ranBudgets
   on-more n full =
-      ap₂ (λ (t : ℕ) (l : List Server). record { frame = d .frame; count = d .count; clock = moment t; servers = l })
+      ap₂ (λ (t : ℕ) (l : List Server). standing d (moment t) l)
       clock-more
       (set-set (d .servers) i (budgetsOn (serverAt d i) n) (servedFor (serverAt (ranBudgets d i n) i) (serverAt d i .budget .ticks))
       ∙ ap (λ (s : Server). set (d .servers) i (servedFor s (serverAt d i .budget .ticks))) (on-own n)

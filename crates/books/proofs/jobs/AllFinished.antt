@@ -5,12 +5,13 @@ use mathlib.Core.List.{List}
 use mathlib.Core.Path.{_≡_, ap, subst}
 use native.Mathlib.Decide.{decLt, ℕ-discrete}
 use native.Mathlib.Omega.{arith}
+use Rattle.clock.specs.Clock.{moment}
 use Rattle.dispatcher.specs.Pick.{serverAt}
 use Rattle.dispatcher.specs.declared.Dispatcher.{Dispatcher}
 use Rattle.finish.proofs.FinishLaws.{finish-after}
 use Rattle.finish.proofs.ListLaws.{list-shows, shown-finished}
-use Rattle.finish.specs.Finish.{workOf, at, servedBy, finish, finishList}
-use Rattle.history.specs.Choice.{served}
+use Rattle.finish.specs.Finish.{workOf, finishedAt, servedBy, finish, finishList}
+use Rattle.history.specs.Choice.{ticksServed}
 use Rattle.judgement.proofs.FitLaws.{Fit}
 use Rattle.moments.specs.Moments.{history, waitingAt}
 use Rattle.summary.specs.Summary.{finishes}
@@ -21,39 +22,39 @@ use Rattle.books.proofs.jobs.Jobs.{work-none, work-other}
 -- Server i, each of whose jobs that arrived before moment a has finished by then.
 module _ (w : Work) (a i : ℕ)
     (finished : (k : ℕ) → k < w .arrivals → w .arrival k .server ≡ i → w .arrival k .moment .tick < a
-    → (t : ℕ) × (finish w (history w) (w .horizon .tick) k ≡ at t) × (t ≤ a)) where
+    → (t : ℕ) × (finish w (history w) (w .horizon .tick) k ≡ finishedAt (moment t)) × (t ≤ a)) where
   -- a job of the server has its work served, with that of the jobs before it
   job-served : (k : ℕ) → k < w .arrivals → w .arrival k .server ≡ i → w .arrival k .moment .tick < a
-      → workOf w i (suc k) ≤ served (history w) i a
-  job-served k listed own early = go (finished k listed own early) (decLt (served (history w) i a) (workOf w i (suc k)))
+      → workOf w i (suc k) ≤ ticksServed (history w) i a
+  job-served k listed own early = go (finished k listed own early) (decLt (ticksServed (history w) i a) (workOf w i (suc k)))
     where
-      go : (t : ℕ) × (finish w (history w) (w .horizon .tick) k ≡ at t) × (t ≤ a)
-          → Dec (served (history w) i a < workOf w i (suc k)) → workOf w i (suc k) ≤ served (history w) i a
+      go : (t : ℕ) × (finish w (history w) (w .horizon .tick) k ≡ finishedAt (moment t)) × (t ≤ a)
+          → Dec (ticksServed (history w) i a < workOf w i (suc k)) → workOf w i (suc k) ≤ ticksServed (history w) i a
       go f (no more) = omega arith
       go (t, e, le) (yes less) =
           let no : ⊥ = omega (
             arith,
             finish-after (history w) i (workOf w i (suc k)) (w .horizon .tick) t a
-                (subst (λ (s : ℕ). servedBy (history w) s (workOf w s (suc k)) (w .horizon .tick) ≡ at t) own e)
+                (subst (λ (s : ℕ). servedBy (history w) s (workOf w s (suc k)) (w .horizon .tick) ≡ finishedAt (moment t)) own e)
                 less,
           ) in
           absurd no
 
   -- so all its work of earlier arrivals is served
   work-served : (j : ℕ) → j ≤ w .arrivals → ((k : ℕ) → k < j → w .arrival k .moment .tick < a)
-      → workOf w i j ≤ served (history w) i a
+      → workOf w i j ≤ ticksServed (history w) i a
   work-served zero few early = omega (arith, work-none w i)
   work-served (suc j) few early =
       go (ℕ-discrete (w .arrival j .server) i) (work-served j (omega arith) (λ k b. early k (omega arith)))
     where
-      go : Dec (w .arrival j .server ≡ i) → workOf w i j ≤ served (history w) i a → workOf w i (suc j) ≤ served (history w) i a
+      go : Dec (w .arrival j .server ≡ i) → workOf w i j ≤ ticksServed (history w) i a → workOf w i (suc j) ≤ ticksServed (history w) i a
       go (yes own) before = job-served j few own (early j (omega arith))
       go (no other) before = omega (arith, work-other w i j other)
 
 -- Where every job of server i that arrived before a moment has finished by then, it has no work waiting.
 pub finished-idle : {w : Work} {places : ℕ} → Fit w places → (a i : ℕ) → a ≤ w .horizon .tick
     → ((k : ℕ) → k < w .arrivals → w .arrival k .server ≡ i → w .arrival k .moment .tick < a
-    → (t : ℕ) × (finish w (history w) (w .horizon .tick) k ≡ at t) × (t ≤ a))
+    → (t : ℕ) × (finish w (history w) (w .horizon .tick) k ≡ finishedAt (moment t)) × (t ≤ a))
     → waitingAt w i a ≡ 0
 unfolding waitingAt
 finished-idle {w} fit a i within finished =

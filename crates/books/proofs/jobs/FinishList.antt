@@ -12,7 +12,7 @@ use Rattle.counting.proofs.PlacesLaws.{length-places, getD-places, places-getD,
 use Rattle.counting.specs.Places.{places}
 use Rattle.counting.specs.Totals.{longest}
 use Rattle.finish.proofs.FinishLaws.{finish-open}
-use Rattle.finish.specs.Finish.{Finish, isOpen, firstServed, servedBy, finish, shown, finishList, workOf}
+use Rattle.finish.specs.Finish.{Finish, isOpen, firstServed, servedBy, finish, finishNumber, finishList, workOf}
 use Rattle.history.proofs.ChoiceLaws.{served-start}
 use Rattle.judgement.proofs.FitLaws.{Fit}
 use Rattle.moments.specs.Moments.{history}
@@ -27,25 +27,25 @@ module _ (m : ℕ) (list : List ℕ) where
   unfolding finishList
   finishes-same f g same = places-same (length list) _ _ (λ k b. go k (decLt k m))
     where
-      go : (k : ℕ) → Dec (k < m) → cond (ltb k m) (shown (f k)) (getD list k 0) ≡ cond (ltb k m) (shown (g k)) (getD list k 0)
-      go k (yes l) = ap (λ (x : Finish). cond (ltb k m) (shown x) (getD list k 0)) (same k l)
+      go : (k : ℕ) → Dec (k < m) → cond (ltb k m) (finishNumber (f k)) (getD list k 0) ≡ cond (ltb k m) (finishNumber (g k)) (getD list k 0)
+      go k (yes l) = ap (λ (x : Finish). cond (ltb k m) (finishNumber x) (getD list k 0)) (same k l)
       go k (no l) = rw (le-ltb k m (omega arith))
 
   pub finishes-one : (f g : ℕ → Finish) (job : ℕ) → job < m → m ≤ length list → ((k : ℕ) → k < m → (k ≡ job → ⊥) → f k ≡ g k)
-      → set (finishList m f list) job (shown (g job)) ≡ finishList m g list
+      → set (finishList m f list) job (finishNumber (g job)) ≡ finishList m g list
   unfolding finishList
   finishes-one f g job l fits same =
       ap (set (finishList m f list) job) (sym here)
-      ∙ set-places (length list) (λ k. cond (ltb k m) (shown (f k)) (getD list k 0)) (λ k. cond (ltb k m) (shown (g k)) (getD list k 0)) job
+      ∙ set-places (length list) (λ k. cond (ltb k m) (finishNumber (f k)) (getD list k 0)) (λ k. cond (ltb k m) (finishNumber (g k)) (getD list k 0)) job
       (omega arith)
       (λ k n. go k n (decLt k m))
     where
-      here : cond (ltb job m) (shown (g job)) (getD list job 0) ≡ shown (g job)
+      here : cond (ltb job m) (finishNumber (g job)) (getD list job 0) ≡ finishNumber (g job)
       here = rw (lt-ltb job m l)
 
       go : (k : ℕ) → (k ≡ job → ⊥) → Dec (k < m)
-          → cond (ltb k m) (shown (f k)) (getD list k 0) ≡ cond (ltb k m) (shown (g k)) (getD list k 0)
-      go k n (yes b) = ap (λ (x : Finish). cond (ltb k m) (shown x) (getD list k 0)) (same k b n)
+          → cond (ltb k m) (finishNumber (f k)) (getD list k 0) ≡ cond (ltb k m) (finishNumber (g k)) (getD list k 0)
+      go k n (yes b) = ap (λ (x : Finish). cond (ltb k m) (finishNumber x) (getD list k 0)) (same k b n)
       go k n (no b) = rw (le-ltb k m (omega arith))
 
   pub finishes-length : (f : ℕ → Finish) → length (finishList m f list) ≡ length list
@@ -56,17 +56,17 @@ module _ (m : ℕ) (list : List ℕ) where
 pub finishes-again : (m : ℕ) (f g : ℕ → Finish) (list : List ℕ) → finishList m f (finishList m g list) ≡ finishList m f list
 unfolding finishList
 finishes-again m f g list =
-    ap (λ (n : ℕ). places n (λ k. cond (ltb k m) (shown (f k)) (getD (finishList m g list) k 0))) (finishes-length m list g)
-    ∙ places-same (length list) (λ k. cond (ltb k m) (shown (f k)) (getD (finishList m g list) k 0))
-    (λ k. cond (ltb k m) (shown (f k)) (getD list k 0))
+    ap (λ (n : ℕ). places n (λ k. cond (ltb k m) (finishNumber (f k)) (getD (finishList m g list) k 0))) (finishes-length m list g)
+    ∙ places-same (length list) (λ k. cond (ltb k m) (finishNumber (f k)) (getD (finishList m g list) k 0))
+    (λ k. cond (ltb k m) (finishNumber (f k)) (getD list k 0))
     (λ k b. go k b (decLt k m))
   where
     go : (k : ℕ) → k < length list → Dec (k < m)
-        → cond (ltb k m) (shown (f k)) (getD (finishList m g list) k 0) ≡ cond (ltb k m) (shown (f k)) (getD list k 0)
+        → cond (ltb k m) (finishNumber (f k)) (getD (finishList m g list) k 0) ≡ cond (ltb k m) (finishNumber (f k)) (getD list k 0)
     go k b (yes l) = rw (lt-ltb k m l)
     go k b (no l) =
         rw (le-ltb k m (omega arith))
-        (getD-places (length list) (λ k. cond (ltb k m) (shown (g k)) (getD list k 0)) k 0 b ∙ rw (le-ltb k m (omega arith)))
+        (getD-places (length list) (λ k. cond (ltb k m) (finishNumber (g k)) (getD list k 0)) k 0 b ∙ rw (le-ltb k m (omega arith)))
 
 -- one place more of an open job
 pub finishes-open : (m : ℕ) (list : List ℕ) → m < length list

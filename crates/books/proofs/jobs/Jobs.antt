@@ -5,12 +5,13 @@ use mathlib.Core.Path.{_≡_, refl, sym, _∙_, ap, subst, subst⁻¹}
 use native.Mathlib.Decide.{decLt, ℕ-discrete}
 use native.Mathlib.Nat.{add-sub-of-le, add-suc, add-zero}
 use native.Mathlib.Omega.{arith}
+use Rattle.clock.specs.Clock.{moment}
 use Rattle.clock.specs.declared.Moment.{Moment}
 use Rattle.counting.specs.Sum.{sum}
 use Rattle.finish.proofs.FinishLaws.{finish-open, finish-stays, finish-now, finish-unserved}
-use Rattle.finish.specs.Finish.{costFor, workOf, isOpen, at, servedBy, finish}
+use Rattle.finish.specs.Finish.{costFor, workOf, isOpen, finishedAt, servedBy, finish}
 use Rattle.history.proofs.ChoiceLaws.{served-own, served-other, for-nobody, for-other}
-use Rattle.history.specs.Choice.{nobody, given, served}
+use Rattle.history.specs.Choice.{nobody, given, ticksServed}
 use Rattle.judgement.proofs.FitLaws.{Fit}
 use Rattle.moments.specs.Moments.{history}
 use Rattle.workfile.specs.Work.{Work}
@@ -52,10 +53,10 @@ pub record NextJob (w : Work) (i from r : ℕ) : Type 0 where
 -- of that one; else `job` is the one being served, and `left` what is left of it.
 pub record Job (w : Work) (t j i job left : ℕ) : Type 0 where
   pub own : job < w .arrivals → w .arrival job .server ≡ i
-  pub between : left ≡ 0 → served (history w) i t ≡ workOf w i job
+  pub between : left ≡ 0 → ticksServed (history w) i t ≡ workOf w i job
   pub taken : 0 < left → job < j
-  pub begun : 0 < left → workOf w i job ≤ served (history w) i t
-  pub rest : 0 < left → served (history w) i t + left ≡ workOf w i (suc job)
+  pub begun : 0 < left → workOf w i job ≤ ticksServed (history w) i t
+  pub rest : 0 < left → ticksServed (history w) i t + left ≡ workOf w i (suc job)
 
 module _ {w : Work} {t i job left : ℕ} where
   -- more arrivals
@@ -70,7 +71,7 @@ module _ {w : Work} {t i job left : ℕ} where
       }
 
   -- time in which the server is not served
-  pub job-waits : {j : ℕ} (u : ℕ) → served (history w) i u ≡ served (history w) i t → Job w t j i job left → Job w u j i job left
+  pub job-waits : {j : ℕ} (u : ℕ) → ticksServed (history w) i u ≡ ticksServed (history w) i t → Job w t j i job left → Job w u j i job left
   job-waits u e b =
       record {
         own = b .own;
@@ -82,7 +83,7 @@ module _ {w : Work} {t i job left : ℕ} where
 
 -- where work of the server waits, that is work of `job`, which is opened
 module _ {w : Work} {t j i job places : ℕ} (fit : Fit w places) (taken : j ≤ w .arrivals) (b : Job w t j i job 0)
-    (waits : served (history w) i t < workOf w i j) where
+    (waits : ticksServed (history w) i t < workOf w i j) where
   pub waits-taken : job < j
   waits-taken = go (decLt job j)
     where
@@ -102,7 +103,7 @@ module _ {w : Work} {t j i job places : ℕ} (fit : Fit w places) (taken : j ≤
 
 -- k ticks of the job that is served, which may end it
 module _ {w : Work} {t j i job left : ℕ} (k : ℕ) (b : Job w t j i job left) (some : 0 < left) (within : k ≤ left)
-    (ticks : served (history w) i (t + k) ≡ served (history w) i t + k) where
+    (ticks : ticksServed (history w) i (t + k) ≡ ticksServed (history w) i t + k) where
   pub job-goes-on : k < left → Job w (t + k) j i job (left - k)
   job-goes-on more =
       record {
@@ -125,7 +126,7 @@ module _ {w : Work} {t j i job left : ℕ} (k : ℕ) (b : Job w t j i job left) 
 
 -- no more is left than waits
 pub job-waiting : {w : Work} {t j i job left waiting : ℕ} → Job w t j i job left → 0 < left
-    → served (history w) i t + waiting ≡ workOf w i j → left ≤ waiting
+    → ticksServed (history w) i t + waiting ≡ workOf w i j → left ≤ waiting
 job-waiting {w} {t} {j} {i} {job} b some e = omega (arith, b .rest some, work-to w i (suc job) j (b .taken some))
 
 -- When jobs finish.
@@ -141,7 +142,7 @@ idle-ends-none w t k all a =
 module _ {w : Work} {t j i job left places : ℕ} (fit : Fit w places) (k : ℕ) (d : Moment) (b : Job w t j i job left)
     (some : 0 < left) (within : suc k ≤ left) (taken : j ≤ w .arrivals)
     (all : (q : ℕ) → q < suc k → history w (t + q) ≡ given i d) where
-  ticks : served (history w) i (t + suc k) ≡ served (history w) i t + suc k
+  ticks : ticksServed (history w) i (t + suc k) ≡ ticksServed (history w) i t + suc k
   ticks = served-own (history w) i t (suc k) d all
 
   own-job : w .arrival job .server ≡ i
@@ -158,7 +159,7 @@ module _ {w : Work} {t j i job left places : ℕ} (fit : Fit w places) (k : ℕ)
           (omega (arith, work-to w i (suc a) job before, b .begun some))
           (omega arith)
       go (no after) =
-          let more : served (history w) i t + left < workOf w i (suc a)
+          let more : ticksServed (history w) i t + left < workOf w i (suc a)
           = omega (
             arith,
             b .rest some,
@@ -194,10 +195,10 @@ module _ {w : Work} {t j i job left places : ℕ} (fit : Fit w places) (k : ℕ)
       subst⁻¹ (λ (s : ℕ). servedBy (history w) s (workOf w s (suc job)) (t + suc k) ≡ isOpen) own-job
       (finish-open (history w) i (workOf w i (suc job)) (t + suc k) (omega (arith, b .rest some, ticks)))
 
-  pub job-finishes : suc k ≡ left → finish w (history w) (t + suc k) job ≡ at (t + suc k)
+  pub job-finishes : suc k ≡ left → finish w (history w) (t + suc k) job ≡ finishedAt (moment (t + suc k))
   job-finishes e =
-      subst⁻¹ (λ (s : ℕ). servedBy (history w) s (workOf w s (suc job)) (t + suc k) ≡ at (t + suc k)) own-job
-      (subst⁻¹ (λ (u : ℕ). servedBy (history w) i (workOf w i (suc job)) u ≡ at u) (add-suc t k)
+      subst⁻¹ (λ (s : ℕ). servedBy (history w) s (workOf w s (suc job)) (t + suc k) ≡ finishedAt (moment (t + suc k))) own-job
+      (subst⁻¹ (λ (u : ℕ). servedBy (history w) i (workOf w i (suc job)) u ≡ finishedAt (moment u)) (add-suc t k)
       (finish-now (history w) i (workOf w i (suc job)) (t + k)
       (omega (arith, served-own (history w) i t k d (λ q l. all q (omega arith)), b .rest some))
-      (ap (served (history w) i) (sym (add-suc t k)) ∙ ticks ∙ omega (arith, b .rest some))))
+      (ap (ticksServed (history w) i) (sym (add-suc t k)) ∙ ticks ∙ omega (arith, b .rest some))))

@@ -12,6 +12,7 @@ use native.Mathlib.Nat.{add-assoc}
 use native.Mathlib.Omega.{arith}
 use Rattle.clock.specs.Clock.{lastTick, moment}
 use Rattle.clock.specs.declared.Length.{Length}
+use Rattle.dispatcher.specs.Moves.{standing}
 use Rattle.dispatcher.specs.Pick.{serverAt, Earliest}
 use Rattle.dispatcher.specs.declared.Dispatcher.{Dispatcher}
 use Rattle.judgement.proofs.FitLaws.{Fit}
@@ -35,22 +36,12 @@ use Rattle.books.proofs.tree.Winners.{Set}
 abbrev pub gone : Server → ℕ → ℕ → ℕ
 gone s r n = r + n * s .budget .ticks
 
--- the dispatcher then
-abbrev pub dispatcherAfter : Dispatcher → ℕ → ℕ → ℕ → ℕ → Dispatcher
-dispatcherAfter d t i r n =
-    record {
-      frame = d .frame;
-      count = d .count;
-      clock = moment (t + gone (serverAt d i) r n);
-      servers = set (d .servers) i (budgetsOn (servedFor (serverAt d i) r) n);
-    }
-
 -- the stretch that the run is in after the first r ticks
 abbrev pub currentNow : Current → Dispatcher → ℕ → ℕ → ℕ → Current
 currentNow c d t i r = withWaits (currentThen c t i (serverAt d i .deadline)) (servedFor (serverAt d i) r .waiting .ticks)
 
 -- the books then: all but those of jobs and finishes
-pub record Happens (t next : ℕ) (d : Dispatcher) (keys rest postponed interrupted list : List ℕ) (c : Current) (i r spare n : ℕ)
+pub record SpellBooks (t next : ℕ) (d : Dispatcher) (keys rest postponed interrupted list : List ℕ) (c : Current) (i r spare n : ℕ)
     (keys′ rest′ postponed′ interrupted′ list′ : List ℕ) (c′ : Current) : Type 0 where
   pub some : 0 < r
   pub inside : r ≤ getD rest i 0
@@ -78,7 +69,7 @@ module _ {w : Work} {lent ends : List ℕ} {t j next : ℕ} {d : Dispatcher}
     (server : i < mostServers) (works : getD keys 1 0 ≡ lastTick → ⊥) (is : i ≡ getD keys 1 0 % 64) {work rest : List ℕ}
     (b : Jobs w t j work rest) (some : 0 < getD rest i 0) {spare n : ℕ} {keys′ rest′ postponed′ interrupted′ list′ : List ℕ}
     {c′ : Current}
-    (k : ℕ) (h : Happens t next d keys rest postponed interrupted list c i (suc k) spare n keys′ rest′ postponed′ interrupted′
+    (k : ℕ) (h : SpellBooks t next d keys rest postponed interrupted list c i (suc k) spare n keys′ rest′ postponed′ interrupted′
     list′ c′) where
   its-rest : getD (set rest i (getD rest i 0 - suc k)) i 0 ≡ getD rest i 0 - suc k
   its-rest = getD-set-same rest i (getD rest i 0 - suc k) 0 (omega (arith, b .left-places))
@@ -102,7 +93,7 @@ module _ {w : Work} {lent ends : List ℕ} {t j next : ℕ} {d : Dispatcher}
   -- with these jobs and finishes after the first ticks
   finally : {work′ finishes′ : List ℕ} → Jobs w (t + suc k) j work′ (set rest i (getD rest i 0 - suc k))
       → Ended w (t + suc k) ends finishes′
-      → Travels w lent ends (t + gone (serverAt d i) (suc k) n) j next (dispatcherAfter d t i (suc k) n) keys′ work′ rest′
+      → Travels w lent ends (t + gone (serverAt d i) (suc k) n) j next (standing d (moment (t + gone (serverAt d i) (suc k) n)) (set (d .servers) i (budgetsOn (servedFor (serverAt d i) (suc k)) n))) keys′ work′ rest′
       postponed′
       interrupted′
       list′
@@ -125,13 +116,7 @@ module _ {w : Work} {lent ends : List ℕ} {t j next : ℕ} {d : Dispatcher}
       }
     where
       dispatcherAt : ℕ → Dispatcher
-      dispatcherAt u =
-          record {
-            frame = d .frame;
-            count = d .count;
-            clock = moment u;
-            servers = set (d .servers) i (budgetsOn (servedFor (serverAt d i) (suc k)) n);
-          }
+      dispatcherAt u = standing d (moment u) (set (d .servers) i (budgetsOn (servedFor (serverAt d i) (suc k)) n))
 
       onward : Current
       onward = currentOn (currentNow c d t i (suc k)) (t + suc k) i (servedFor (serverAt d i) (suc k)) n
@@ -180,7 +165,7 @@ module _ {w : Work} {lent ends : List ℕ} {t j next : ℕ} {d : Dispatcher}
       go (suc m) fits = let no : ⊥ = omega (arith, fits (omega arith), h .of-job) in absurd no
 
   pub ran-on : (getD rest i 0 ≡ gone (serverAt d i) (suc k) n → ⊥)
-      → Travels w lent ends (t + gone (serverAt d i) (suc k) n) j next (dispatcherAfter d t i (suc k) n) keys′ work rest′ postponed′
+      → Travels w lent ends (t + gone (serverAt d i) (suc k) n) j next (standing d (moment (t + gone (serverAt d i) (suc k) n)) (set (d .servers) i (budgetsOn (servedFor (serverAt d i) (suc k)) n))) keys′ work rest′ postponed′
       interrupted′
       list′
       finishes
@@ -201,7 +186,7 @@ module _ {w : Work} {lent ends : List ℕ} {t j next : ℕ} {d : Dispatcher}
 
   pub ran-out : w .arrivals ≤ length ends → getD rest i 0 ≡ gone (serverAt d i) (suc k) n → {behind : ℕ}
       → NextJob w i (suc (getD work i 0)) behind
-      → Travels w lent ends (t + gone (serverAt d i) (suc k) n) j next (dispatcherAfter d t i (suc k) n) keys′
+      → Travels w lent ends (t + gone (serverAt d i) (suc k) n) j next (standing d (moment (t + gone (serverAt d i) (suc k) n)) (set (d .servers) i (budgetsOn (servedFor (serverAt d i) (suc k)) n))) keys′
       (set work i behind)
       rest′
       postponed′
@@ -242,19 +227,19 @@ module _ {w : Work} {lent ends : List ℕ} {t j next : ℕ} {d : Dispatcher}
     (b : Jobs w t j work rest) (some : 0 < getD rest i 0) {spare n : ℕ} {keys′ rest′ postponed′ interrupted′ list′ : List ℕ}
     {c′ : Current} where
   -- where some of the job is left, and where none is
-  pub travels-ran : (r : ℕ) → Happens t next d keys rest postponed interrupted list c i r spare n keys′ rest′ postponed′
+  pub travels-ran : (r : ℕ) → SpellBooks t next d keys rest postponed interrupted list c i r spare n keys′ rest′ postponed′
       interrupted′ list′ c′
       → (getD rest i 0 ≡ gone (serverAt d i) r n → ⊥)
-      → Travels w lent ends (t + gone (serverAt d i) r n) j next (dispatcherAfter d t i r n) keys′ work rest′ postponed′
+      → Travels w lent ends (t + gone (serverAt d i) r n) j next (standing d (moment (t + gone (serverAt d i) r n)) (set (d .servers) i (budgetsOn (servedFor (serverAt d i) r) n))) keys′ work rest′ postponed′
       interrupted′ list′ finishes
       c′
   travels-ran zero h leaves = let no : ⊥ = omega (arith, h .some) in absurd no
   travels-ran (suc k) h leaves = ran-on fit v ahead i server works is b some k h leaves
 
   pub travels-ended : (r : ℕ)
-      → Happens t next d keys rest postponed interrupted list c i r spare n keys′ rest′ postponed′ interrupted′ list′ c′
+      → SpellBooks t next d keys rest postponed interrupted list c i r spare n keys′ rest′ postponed′ interrupted′ list′ c′
       → w .arrivals ≤ length ends → getD rest i 0 ≡ gone (serverAt d i) r n → {behind : ℕ} → NextJob w i (suc (getD work i 0)) behind
-      → Travels w lent ends (t + gone (serverAt d i) r n) j next (dispatcherAfter d t i r n) keys′
+      → Travels w lent ends (t + gone (serverAt d i) r n) j next (standing d (moment (t + gone (serverAt d i) r n)) (set (d .servers) i (budgetsOn (servedFor (serverAt d i) r) n))) keys′
       (set work i behind) rest′
       postponed′
       interrupted′

@@ -16,7 +16,7 @@ use Rattle.books.proofs.tree.Winners.{Set}
 abbrev pub afterTicks : Current → ℕ → ℕ → Moment → Server → Current
 afterTicks c t i deadline after = withWaits (currentThen c t i deadline) (after .waiting .ticks)
 
-pub record Went (t i : ℕ) (s : Server) (rest room : ℕ) (c : Current)
+pub record SpellLeaves (t i : ℕ) (s : Server) (rest room : ℕ) (c : Current)
     (keys list postponed interrupted keys′ list′ postponed′ interrupted′ : List ℕ) (c′ : Current) (last : Server) (gone : ℕ)
     : Type 0 where
   pub ticks : ℕ

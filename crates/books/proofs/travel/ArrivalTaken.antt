@@ -1,5 +1,6 @@
 -- The arrivals of a moment are taken, one after the other.
 use Prim.Native.Nat.{ℕ, suc, _+_, _≤_, _<_}
+use lib.ListN.{set}
 use lib.Seq.{getD-set-same, getD-set-other}
 use mathlib.Core.List.{List}
 use mathlib.Core.Path.{_≡_, sym, _∙_, ap, subst⁻¹}
@@ -7,13 +8,13 @@ use native.Mathlib.Decide.{decLt}
 use native.Mathlib.Nat.{le-refl, le-antisymm}
 use native.Mathlib.Omega.{arith}
 use Rattle.arrival.specs.declared.Arrival.{Arrival}
-use Rattle.dispatcher.specs.Moves.{withServer}
+use Rattle.dispatcher.specs.Moves.{standing}
 use Rattle.dispatcher.specs.Pick.{serverAt}
 use Rattle.dispatcher.specs.declared.Dispatcher.{Dispatcher}
 use Rattle.judgement.proofs.FitLaws.{Fit}
 use Rattle.server.specs.Moves.{arrived}
 use Rattle.server.specs.Ranges.{Ranged}
-use Rattle.server.specs.Server.{blank}
+use Rattle.server.specs.Server.{vacant}
 use Rattle.server.specs.declared.Server.{Server}
 use Rattle.sizes.specs.Sizes.{clockEnd, mostWaiting}
 use Rattle.workfile.specs.Work.{Work}
@@ -29,9 +30,9 @@ pub record Takes (w : Work) (t j : ℕ) (d : Dispatcher) (a : Arrival) : Type 0 
   pub ranged : Ranged (d .clock) (serverAt d (a .server))
   pub has-room : serverAt d (a .server) .waiting .ticks + a .cost .ticks ≤ mostWaiting
   pub stands : (s : Server) → s ≡ arrived (serverAt d (a .server)) (d .clock) (a .cost)
-      → Stands w t (suc j) (withServer d (a .server) s)
+      → Stands w t (suc j) (standing d (d .clock) (set (d .servers) (a .server) s))
   pub keyed : {keys after : List ℕ} (s : Server) → Keyed keys d → Set keys after (a .server) (keyOf s (a .server))
-      → Keyed after (withServer d (a .server) s)
+      → Keyed after (standing d (d .clock) (set (d .servers) (a .server) s))
 
 module _ {w : Work} {places t j : ℕ} {d : Dispatcher} (fit : Fit w places) (s : Stands w t j d) (end : t ≤ clockEnd)
     (more : j < w .arrivals) (due : w .arrival j .moment .tick ≤ t) (a : Arrival) (read : a ≡ w .arrival j) where
@@ -51,14 +52,14 @@ module _ {w : Work} {places t j : ℕ} {d : Dispatcher} (fit : Fit w places) (s 
             (room fit s end more now);
         stands = λ server is.
             subst⁻¹ (Stands w t (suc j))
-            (ap (withServer d (a .server)) is
-            ∙ ap (λ (x : Arrival). withServer d (x .server) (arrived (serverAt d (x .server)) (d .clock) (x .cost))) read
+            (ap (λ (x : Server). standing d (d .clock) (set (d .servers) (a .server) x)) is
+            ∙ ap (λ (x : Arrival). standing d (d .clock) (set (d .servers) (x .server) (arrived (serverAt d (x .server)) (d .clock) (x .cost)))) read
             ∙ sym (accepted-as fit s end more now))
             (stands-arrival fit s end more now);
         keyed = λ {keys} {after} server of-d key-set.
-            keyed-set (a .server) of-d (λ k n. getD-set-other (d .servers) (a .server) k server blank n)
+            keyed-set (a .server) of-d (λ k n. getD-set-other (d .servers) (a .server) k server vacant n)
             (subst⁻¹ (λ (x : Server). Set keys after (a .server) (keyOf x (a .server)))
-            (getD-set-same (d .servers) (a .server) server blank (omega (arith, known, stands-within fit s end .count, stands-within fit s end .places)))
+            (getD-set-same (d .servers) (a .server) server vacant (omega (arith, known, stands-within fit s end .count, stands-within fit s end .places)))
             key-set);
       }
 

@@ -4,16 +4,15 @@ use lib.ListN.{length, getD}
 use mathlib.Core.List.{List}
 use mathlib.Core.Path.{_≡_}
 use Rattle.finish.specs.Finish.{finishList}
-use Rattle.moments.specs.Moments.{history, postponedBy}
+use Rattle.moments.specs.Moments.{postponedBy}
 use Rattle.sizes.specs.Sizes.{mostServers}
 use Rattle.summary.specs.Summary as summary
-use Rattle.trace.specs.Trace.{trace}
 use Rattle.trace.specs.Written.{written}
 use Rattle.workfile.specs.Work.{Work}
 
-pub record Came (w : Work) (lent ends list finishes : List ℕ) (segments : ℕ) (postponed interrupted : List ℕ) : Type 0 where
-  pub list-is : list ≡ written (trace (history w) (w .horizon .tick)) lent
-  pub segments-is : segments ≡ length (trace (history w) (w .horizon .tick))
+pub record AtHorizon (w : Work) (lent ends list finishes : List ℕ) (segments : ℕ) (postponed interrupted : List ℕ) : Type 0 where
+  pub list-is : list ≡ written (summary.traceOf w) lent
+  pub segments-is : segments ≡ length (summary.traceOf w)
   pub finishes-is : finishes ≡ finishList (w .arrivals) (summary.finishes w) ends
   pub postponed-is : (i : ℕ) → i < mostServers → getD postponed i 0 ≡ postponedBy w i (w .horizon .tick)
   pub interrupted-is : (i : ℕ) → i < mostServers → getD interrupted i 0 ≡ summary.interruptedOf w i

@@ -9,9 +9,9 @@ use native.Mathlib.Omega.{arith}
 use Rattle.clock.specs.Clock.{moment}
 use Rattle.dispatcher.specs.Pick.{serverAt, Earliest, NoneWorks}
 use Rattle.dispatcher.specs.declared.Dispatcher.{Dispatcher}
-use Rattle.finish.specs.Finish.{Finish, isOpen, at, finish, finishList, shown}
+use Rattle.finish.specs.Finish.{Finish, isOpen, finishedAt, finish, finishList, finishNumber}
 use Rattle.history.proofs.ChoiceLaws.{served-start}
-use Rattle.history.specs.Choice.{given, served}
+use Rattle.history.specs.Choice.{given, ticksServed}
 use Rattle.judgement.proofs.FitLaws.{Fit}
 use Rattle.moments.proofs.OneGo.{ranFor, servedFor}
 use Rattle.moments.proofs.PostponedLaws.{postponed-not, postponed-other, postponed-own, postponed-idle, postponed-start}
@@ -151,7 +151,7 @@ module _ {w : Work} {places t j : ℕ} {d : Dispatcher} (fit : Fit w places) (s 
     others-wait : (n : ℕ) → n < mostServers → (n ≡ i → ⊥) → Job w (t + suc k) j n (getD job n 0) (getD left n 0)
     others-wait n l other = job-waits (t + suc k) (event-unserved fit s k end later i p budget its-work n other) (b .each n l)
 
-    its-ticks : served (history w) i (t + suc k) ≡ served (history w) i t + suc k
+    its-ticks : ticksServed (history w) i (t + suc k) ≡ ticksServed (history w) i t + suc k
     its-ticks = event-served fit s k end later i p budget its-work
 
     -- and its own goes on
@@ -274,13 +274,13 @@ module _ {w : Work} {places t j : ℕ} {d : Dispatcher} (fit : Fit w places) (s 
     ran-ended-one {ends} places e all =
         record {
           finishes-is =
-              ap₂ (λ (l : List ℕ) (x : Finish). set l (getD job i 0) (shown x)) (e .finishes-is) (sym now-ended)
+              ap₂ (λ (l : List ℕ) (x : Finish). set l (getD job i 0) (finishNumber x)) (e .finishes-is) (sym now-ended)
               ∙ finishes-one (w .arrivals) ends (finish w (history w) t) (finish w (history w) (t + suc k)) (getD job i 0) its-place
               places
               no-other-ends;
         }
       where
-        now-ended : finish w (history w) (t + suc k) (getD job i 0) ≡ at (t + suc k)
+        now-ended : finish w (history w) (t + suc k) (getD job i 0) ≡ finishedAt (moment (t + suc k))
         now-ended = job-finishes fit k (serverAt d i .deadline) its some within (s .count) history-is all
 
     -- the segments

@@ -13,7 +13,7 @@ use Rattle.dispatcher.specs.Within.{Within}
 use Rattle.dispatcher.specs.declared.Dispatcher.{Dispatcher}
 use Rattle.finish.specs.Finish.{workOf}
 use Rattle.history.proofs.ChoiceLaws.{served-own, served-other, for-nobody, for-other}
-use Rattle.history.specs.Choice.{nobody, given, served}
+use Rattle.history.specs.Choice.{nobody, given, ticksServed}
 use Rattle.judgement.proofs.FitLaws.{Fit}
 use Rattle.moments.proofs.MomentLaws.{at-keeps}
 use Rattle.moments.proofs.OneGo.{laterBy, ranFor, servedFor}
@@ -21,7 +21,7 @@ use Rattle.moments.proofs.OneGoLaws.{Quiet, taken-none, at-ran, turn-ran, at-id
 use Rattle.moments.proofs.PostponedLaws.{history-ran, history-idle}
 use Rattle.moments.specs.Moments.{atMoment, ready, turn, history}
 use Rattle.refusal.specs.Refusals.{gave}
-use Rattle.server.specs.Server.{blank}
+use Rattle.server.specs.Server.{vacant}
 use Rattle.server.specs.declared.Server.{Server}
 use Rattle.sizes.specs.Sizes.{clockEnd}
 use Rattle.workfile.specs.Work.{Work}
@@ -44,7 +44,7 @@ module _ {w : Work} {places t j : ℕ} {d : Dispatcher} (fit : Fit w places) (s 
 
   -- where the run stands then
   stands-later : (e : Dispatcher) → e ≡ atMoment w (t + suc k)
-      → ((i : ℕ) → served (history w) i (t + suc k) + serverAt e i .waiting .ticks ≡ workOf w i j) → Stands w (t + suc k) j e
+      → ((i : ℕ) → ticksServed (history w) i (t + suc k) + serverAt e i .waiting .ticks ≡ workOf w i j) → Stands w (t + suc k) j e
   stands-later e at adds =
       record {
         taken-is =
@@ -90,28 +90,28 @@ module _ {w : Work} {places t j : ℕ} {d : Dispatcher} (fit : Fit w places) (s 
     pub event-history : (q : ℕ) → q < suc k → history w (t + q) ≡ given i (serverAt d i .deadline)
     event-history = history-ran w t i k (serverAt d i .remaining .ticks) (serverAt d i .deadline) event-turns
 
-    pub event-served : served (history w) i (t + suc k) ≡ served (history w) i t + suc k
+    pub event-served : ticksServed (history w) i (t + suc k) ≡ ticksServed (history w) i t + suc k
     event-served = served-own (history w) i t (suc k) (serverAt d i .deadline) event-history
 
-    pub event-unserved : (n : ℕ) → (n ≡ i → ⊥) → served (history w) n (t + suc k) ≡ served (history w) n t
+    pub event-unserved : (n : ℕ) → (n ≡ i → ⊥) → ticksServed (history w) n (t + suc k) ≡ ticksServed (history w) n t
     event-unserved n other =
         served-other (history w) n t (suc k) (given i (serverAt d i .deadline)) (for-other n i (serverAt d i .deadline) other) event-history
 
     pub event-other : (n : ℕ) → (n ≡ i → ⊥) → serverAt (ranFor d i (suc k)) n ≡ serverAt d n
-    event-other n other = getD-set-other (d .servers) i n (servedFor (serverAt d i) (suc k)) blank other
+    event-other n other = getD-set-other (d .servers) i n (servedFor (serverAt d i) (suc k)) vacant other
 
     pub event-own : serverAt (ranFor d i (suc k)) i ≡ servedFor (serverAt d i) (suc k)
     event-own =
-        getD-set-same (d .servers) i (servedFor (serverAt d i) (suc k)) blank
+        getD-set-same (d .servers) i (servedFor (serverAt d i) (suc k)) vacant
         (omega (arith, stands-within fit s (omega arith) .places, stands-within fit s (omega arith) .count, p .among))
 
     pub event-stands : Stands w (t + suc k) j (ranFor d i (suc k))
     event-stands = stands-later (ranFor d i (suc k)) event-at (λ n. adds n (ℕ-discrete n i))
       where
         adds : (n : ℕ) → Dec (n ≡ i)
-            → served (history w) n (t + suc k) + serverAt (ranFor d i (suc k)) n .waiting .ticks ≡ workOf w n j
+            → ticksServed (history w) n (t + suc k) + serverAt (ranFor d i (suc k)) n .waiting .ticks ≡ workOf w n j
         adds n (yes q) =
-            subst⁻¹ (λ (n : ℕ). served (history w) n (t + suc k) + serverAt (ranFor d i (suc k)) n .waiting .ticks ≡ workOf w n j) q
+            subst⁻¹ (λ (n : ℕ). ticksServed (history w) n (t + suc k) + serverAt (ranFor d i (suc k)) n .waiting .ticks ≡ workOf w n j) q
             (omega (
               arith,
               event-served,
@@ -133,7 +133,7 @@ module _ {w : Work} {places t j : ℕ} {d : Dispatcher} (fit : Fit w places) (s 
     pub idle-history : (q : ℕ) → q < suc k → history w (t + q) ≡ nobody
     idle-history = history-idle w t (suc k) idle-turns
 
-    pub idle-unserved : (n : ℕ) → served (history w) n (t + suc k) ≡ served (history w) n t
+    pub idle-unserved : (n : ℕ) → ticksServed (history w) n (t + suc k) ≡ ticksServed (history w) n t
     idle-unserved n = served-other (history w) n t (suc k) nobody (for-nobody n) idle-history
 
     pub idle-stands : Stands w (t + suc k) j (laterBy d (suc k))

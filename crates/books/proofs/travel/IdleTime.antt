@@ -7,6 +7,7 @@ use mathlib.Core.Path.{_≡_, refl, sym, _∙_, ap, subst, subst⁻¹, subst₂}
 use native.Mathlib.Omega.{arith}
 use Rattle.clock.specs.Clock.{lastTick, moment}
 use Rattle.clock.specs.declared.Moment.{Moment}
+use Rattle.dispatcher.specs.Moves.{standing}
 use Rattle.dispatcher.specs.declared.Dispatcher.{Dispatcher}
 use Rattle.judgement.proofs.FitLaws.{Fit}
 use Rattle.moments.proofs.OneGo.{laterBy}
@@ -20,10 +21,6 @@ use Rattle.books.proofs.travel.Stands.{Stands, stands-clock}
 use Rattle.books.proofs.stretches.Stretches.{countAfter}
 use Rattle.books.proofs.stretches.Turns.{stays, traceThen, interruptedThen, currentThen}
 use Rattle.books.proofs.travel.Travels.{Travels, travels-idle}
-
--- the dispatcher at another moment
-abbrev pub atClock : Dispatcher → ℕ → Dispatcher
-atClock d t = record { frame = d .frame; count = d .count; clock = moment t; servers = d .servers }
 
 -- what waits is told alike, whether the stretch goes on or another begins
 waits-kept : (c : Current) (t i : ℕ) (d : Moment) → withWaits (currentThen c t i d) (c .waits) ≡ currentThen c t i d
@@ -43,10 +40,10 @@ module _ {w : Work} {lent ends : List ℕ} {t j next : ℕ} {d : Dispatcher} {ke
     (none : getD keys 1 0 ≡ lastTick) {interrupted′ list′ : List ℕ} {c′ : Current}
     (current-is : c′ ≡ currentThen c t mostServers (moment 0)) (list-is : list′ ≡ traceThen c t mostServers (moment 0) list)
     (interrupted-is : interrupted′ ≡ interruptedThen c mostServers (moment 0) interrupted) where
-  clock-is : laterBy d (next - t) ≡ atClock d next
-  clock-is = ap (atClock d) (omega (arith, ap (λ (m : Moment). m .tick) (stands-clock fit (v .stands) (before-end fit v))))
+  clock-is : laterBy d (next - t) ≡ standing d (moment next) (d .servers)
+  clock-is = ap (λ (u : ℕ). standing d (moment u) (d .servers)) (omega (arith, ap (λ (m : Moment). m .tick) (stands-clock fit (v .stands) (before-end fit v))))
 
-  pub idled-on : Travels w lent ends next j next (atClock d next) keys job left postponed interrupted′ list′ finishes c′
+  pub idled-on : Travels w lent ends next j next (standing d (moment next) (d .servers)) keys job left postponed interrupted′ list′ finishes c′
   idled-on =
       let x = travels-idle fit v ahead none in
       record {

@@ -1,7 +1,7 @@
 -- The dispatcher of a run that stands at moment t with the first j arrivals taken.
 use Prim.Native.Nat.{ℕ, suc, _+_, _*_, _≤_, _<_}
 use lib.Dec.{eqb, ltb}
-use lib.ListN.{List·getD-eq-default}
+use lib.ListN.{List·getD-eq-default, set}
 use lib.Seq.{getD-set-same, getD-set-other}
 use mathlib.Core.Bool.{Bool, true, false, cond}
 use mathlib.Core.Path.{_≡_, refl, sym, _∙_, ap, subst⁻¹}
@@ -9,7 +9,7 @@ use native.Mathlib.Decide.{decLt, ℕ-discrete}
 use native.Mathlib.Nat.{mul-le-mul-right, not-suc-le-zero}
 use native.Mathlib.Omega.{arith}
 use Rattle.arrival.proofs.ArrivalLaws.{not-faulty}
-use Rattle.arrival.specs.Arrival.{faulty}
+use Rattle.arrival.specs.Arrival.{faultyArrival}
 use Rattle.clock.specs.Clock.{moment}
 use Rattle.clock.specs.declared.Moment.{Moment}
 use Rattle.counting.proofs.BelowLaws.{below-suc}
@@ -17,20 +17,20 @@ use Rattle.counting.proofs.PlacesLaws.{getD-places, length-places}
 use Rattle.counting.proofs.SumLaws.{sum-le}
 use Rattle.counting.specs.Places.{places}
 use Rattle.dispatcher.proofs.MoveLaws.{arrival-whole}
-use Rattle.dispatcher.specs.Moves.{Moved, arrival, withServer}
+use Rattle.dispatcher.specs.Moves.{Moved, standing, arrival}
 use Rattle.dispatcher.specs.Pick.{serverAt}
 use Rattle.dispatcher.specs.Start.{startAt, atStart}
 use Rattle.dispatcher.specs.Within.{Within}
 use Rattle.dispatcher.specs.declared.Dispatcher.{Dispatcher}
 use Rattle.finish.specs.Finish.{costFor, workOf}
 use Rattle.history.proofs.ChoiceLaws.{served-start}
-use Rattle.history.specs.Choice.{served}
+use Rattle.history.specs.Choice.{ticksServed}
 use Rattle.judgement.proofs.FitLaws.{Fit}
 use Rattle.moments.proofs.MomentLaws.{taken-more, taken-rest, at-keeps, at-within, taken-within, taken-keeps}
 use Rattle.moments.specs.Moments.{taken, atMoment, ready, history}
 use Rattle.server.proofs.MoveLaws.{arrived-waiting}
 use Rattle.server.specs.Moves.{arrived}
-use Rattle.server.specs.Server.{blank, fresh}
+use Rattle.server.specs.Server.{vacant, fresh}
 use Rattle.server.specs.declared.Server.{Server}
 use Rattle.sizes.specs.Sizes.{clockEnd, mostCost, mostServers, mostWaiting}
 use Rattle.workfile.specs.Work.{Work}
@@ -42,7 +42,7 @@ pub record Stands (w : Work) (t j : ℕ) (d : Dispatcher) : Type 0 where
   pub count : j ≤ w .arrivals
   pub past : (a : ℕ) → a < j → w .arrival a .moment .tick ≤ t
   pub ahead : (a : ℕ) → j ≤ a → a < w .arrivals → t ≤ w .arrival a .moment .tick
-  pub adds : (i : ℕ) → served (history w) i t + serverAt d i .waiting .ticks ≡ workOf w i j
+  pub adds : (i : ℕ) → ticksServed (history w) i t + serverAt d i .waiting .ticks ≡ workOf w i j
 
 -- at the start nothing waits
 pub start-waits-none : (w : Work) (i : ℕ) → serverAt (atMoment w 0) i .waiting .ticks ≡ 0
@@ -50,15 +50,15 @@ unfolding atMoment atStart
 start-waits-none w i = go (decLt i mostServers)
   where
     go : Dec (i < mostServers) → serverAt (atMoment w 0) i .waiting .ticks ≡ 0
-    go (yes l) = ap (λ (s : Server). s .waiting .ticks) (getD-places mostServers (startAt (w .table)) i blank l) ∙ by
+    go (yes l) = ap (λ (s : Server). s .waiting .ticks) (getD-places mostServers (startAt (w .table)) i vacant l) ∙ by
         (ltb i (w .table .count))
       where
-        by : (b : Bool) → (cond b (fresh (w .table .booking i)) blank) .waiting .ticks ≡ 0
+        by : (b : Bool) → (cond b (fresh (w .table .booking i)) vacant) .waiting .ticks ≡ 0
         by true = refl
         by false = refl
     go (no l) =
         ap (λ (s : Server). s .waiting .ticks)
-        (List·getD-eq-default (places mostServers (startAt (w .table))) blank
+        (List·getD-eq-default (places mostServers (startAt (w .table))) vacant
         (omega (arith, length-places mostServers (startAt (w .table)))))
 
 pub stands-start : (w : Work) → Stands w 0 0 (atMoment w 0)
@@ -107,11 +107,11 @@ module _ {w : Work} {places : ℕ} (fit : Fit w places) where
           )
 
       pub accepted-as : arrival d (w .arrival j .server) (w .arrival j .cost) .dispatcher
-          ≡ withServer d (w .arrival j .server) (arrived (serverAt d (w .arrival j .server)) (d .clock) (w .arrival j .cost))
+          ≡ standing d (d .clock) (set (d .servers) (w .arrival j .server) (arrived (serverAt d (w .arrival j .server)) (d .clock) (w .arrival j .cost)))
       accepted-as =
           ap (λ (m : Moved (Unit {0})). m .dispatcher)
           (arrival-whole d (w .arrival j .server) (w .arrival j .cost)
-          (subst⁻¹ (λ (n : ℕ). faulty n (w .arrival j .server) (w .arrival j .cost) ≡ false) stands-count
+          (subst⁻¹ (λ (n : ℕ). faultyArrival n (w .arrival j .server) (w .arrival j .cost) ≡ false) stands-count
           (not-faulty (w .table .count) (w .arrival j .server) (w .arrival j .cost) (fit .sound j more)))
           room)
 
@@ -119,7 +119,7 @@ module _ {w : Work} {places : ℕ} (fit : Fit w places) where
           → serverAt (arrival d (w .arrival j .server) (w .arrival j .cost) .dispatcher) k ≡ serverAt d k
       arrival-other k n =
           ap (λ (x : Dispatcher). serverAt x k) accepted-as
-          ∙ getD-set-other (d .servers) (w .arrival j .server) k _ blank n
+          ∙ getD-set-other (d .servers) (w .arrival j .server) k _ vacant n
 
       own-waits : serverAt (arrival d (w .arrival j .server) (w .arrival j .cost) .dispatcher)
           (w .arrival j .server) .waiting .ticks
@@ -127,7 +127,7 @@ module _ {w : Work} {places : ℕ} (fit : Fit w places) where
       own-waits =
           ap (λ (x : Dispatcher). serverAt x (w .arrival j .server) .waiting .ticks) accepted-as
           ∙ ap (λ (x : Server). x .waiting .ticks)
-          (getD-set-same (d .servers) (w .arrival j .server) _ blank
+          (getD-set-same (d .servers) (w .arrival j .server) _ vacant
           (omega (arith, stands-within .places, stands-within .count, stands-count, fit .sound j more .known)))
           ∙ arrived-waiting (serverAt d (w .arrival j .server)) (d .clock) (w .arrival j .cost)
 
@@ -144,11 +144,11 @@ module _ {w : Work} {places : ℕ} (fit : Fit w places) where
           }
         where
           adds : (k : ℕ) → Dec (k ≡ w .arrival j .server)
-              → served (history w) k t + serverAt (arrival d (w .arrival j .server) (w .arrival j .cost) .dispatcher)
+              → ticksServed (history w) k t + serverAt (arrival d (w .arrival j .server) (w .arrival j .cost) .dispatcher)
               k .waiting .ticks
               ≡ workOf w k (suc j)
           adds k (yes q) =
-              subst⁻¹ (λ (n : ℕ). served (history w) n t + serverAt
+              subst⁻¹ (λ (n : ℕ). ticksServed (history w) n t + serverAt
               (arrival d (w .arrival j .server) (w .arrival j .cost) .dispatcher) n .waiting .ticks ≡ workOf w n (suc j)) q
               (omega (arith, own-waits, s .adds (w .arrival j .server), work-own w (w .arrival j .server) j refl))
           adds k (no n) =

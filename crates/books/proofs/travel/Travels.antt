@@ -13,6 +13,7 @@ use native.Mathlib.Omega.{arith}
 use Rattle.clock.specs.Clock.{lastTick, moment, ticks}
 use Rattle.clock.specs.declared.Length.{Length}
 use Rattle.clock.specs.declared.Moment.{Moment}
+use Rattle.dispatcher.specs.Moves.{standing}
 use Rattle.dispatcher.specs.Pick.{serverAt, Earliest, NoneWorks}
 use Rattle.dispatcher.specs.Within.{Within}
 use Rattle.dispatcher.specs.declared.Dispatcher.{Dispatcher}
@@ -21,7 +22,7 @@ use Rattle.judgement.proofs.FitLaws.{Fit, in-order-all}
 use Rattle.moments.proofs.OneGo.{laterBy, ranFor, servedFor}
 use Rattle.moments.proofs.OneGoLaws.{served-budget}
 use Rattle.moments.specs.Moments.{atMoment}
-use Rattle.server.specs.Server.{blank}
+use Rattle.server.specs.Server.{vacant}
 use Rattle.server.specs.declared.Server.{Server}
 use Rattle.sizes.specs.Sizes.{mostServers}
 use Rattle.workfile.specs.Work.{Work}
@@ -276,17 +277,12 @@ module _ {w : Work} {lent ends : List ℕ} {t j next : ℕ} {d : Dispatcher} {ke
         -- what the dispatcher is then
         abbrev pub dispatcherThen : Dispatcher
         dispatcherThen =
-            record {
-              frame = d .frame;
-              count = d .count;
-              clock = moment (t + suc k + n * serverAt d i .budget .ticks);
-              servers = set (d .servers) i (budgetsOn (servedFor (serverAt d i) (suc k)) n);
-            }
+            standing d (moment (t + suc k + n * serverAt d i .budget .ticks)) (set (d .servers) i (budgetsOn (servedFor (serverAt d i) (suc k)) n))
 
         dispatcher-is : ranBudgets (ranFor d i (suc k)) i n ≡ dispatcherThen
         unfolding ranBudgets
         dispatcher-is =
-            ap₂ (λ (u : ℕ) (l : List Server). record { frame = d .frame; count = d .count; clock = moment u; servers = l }) clock-is servers-are
+            ap₂ (λ (u : ℕ) (l : List Server). standing d (moment u) l) clock-is servers-are
           where
             now : d .clock .tick ≡ t
             now = ap (λ (m : Moment). m .tick) (stands-clock fit (v .stands) (omega (arith, to-horizon, fit .horizon)))
@@ -315,9 +311,9 @@ module _ {w : Work} {lent ends : List ℕ} {t j next : ℕ} {d : Dispatcher} {ke
             → Keyed after dispatcherThen
         keyed-then {after} s =
             keyed-set i (v .keyed)
-            (λ a other. getD-set-other (d .servers) i a (budgetsOn (servedFor (serverAt d i) (suc k)) n) blank other)
+            (λ a other. getD-set-other (d .servers) i a (budgetsOn (servedFor (serverAt d i) (suc k)) n) vacant other)
             (subst⁻¹ (λ (x : Server). Set keys after i (keyOf x i))
-            (getD-set-same (d .servers) i (budgetsOn (servedFor (serverAt d i) (suc k)) n) blank here)
+            (getD-set-same (d .servers) i (budgetsOn (servedFor (serverAt d i) (suc k)) n) vacant here)
             s)
 
         pub travels-then : {after : List ℕ} → Set keys after i (keyOf (budgetsOn (servedFor (serverAt d i) (suc k)) n) i)

@@ -5,7 +5,7 @@ use borrow.Author.Needs.{needs}
 use mathlib.Core.Bool.{false}
 use mathlib.Core.Path.{_≡_, sym, _∙_}
 use native.Mathlib.Omega.{arith}
-use Rattle.arrival.specs.Arrival.{faulty}
+use Rattle.arrival.specs.Arrival.{faultyArrival}
 use Rattle.arrival.proofs.ArrivalLaws.{sound}
 use Rattle.server.specs.Ranges.{Ranged}
 use Rattle.sizes.specs.Sizes.{mostServers, mostWaiting}
@@ -15,7 +15,7 @@ use Rattle.dispatcher.proofs.arrival.Statement.{statement}
 use Rattle.dispatcher.proofs.arrival.Tie as tie
 
 -- past the first test the arrival has no fault, so that its server is one of the 64
-no-fault : (c : tie.Else1) → faulty (c .before .before .args .d .count) (c .before .before .args .server) (c .before .before .args .cost) ≡ false
+no-fault : (c : tie.Else1) → faultyArrival (c .before .before .args .d .count) (c .before .before .args .server) (c .before .before .args .cost) ≡ false
 no-fault c = sym (c .before .is-faulty .ensures) ∙ c .if1 .left
 
 known : (c : tie.Else1) → c .before .before .args .server < c .before .before .args .d .count

@@ -6,7 +6,7 @@ use mathlib.Core.Path.{_≡_, sym, subst, _∙_}
 use native.Mathlib.Nat.{le-antisymm}
 use native.Mathlib.Numerals.{add-one}
 use native.Mathlib.Omega.{arith}
-use Rattle.arrival.specs.Arrival.{faulty}
+use Rattle.arrival.specs.Arrival.{faultyArrival}
 use Rattle.workfile.specs.Work.{workUnder}
 use Rattle.judgement.proofs.PassedLaws.{Passed, passed-none, passed-more, passed-faulty, passed-backward, passed-late, passed-over, passed-whole}
 use Rattle.judgement.proofs.judge_arrivals.Statement.{statement}
@@ -39,7 +39,7 @@ returns c =
     (sym (c .before .is-faulty .ensures) ∙ c .if1 .taken))
 
 no-fault : (c : tie.Else1 Inv-loop μ-loop)
-    → faulty (c .before .before .before .before .before .before .args .h .servers .count)
+    → faultyArrival (c .before .before .before .before .before .before .args .h .servers .count)
     (c .before .before .arrival-from .result .server)
     (c .before .before .arrival-from .result .cost)
     ≡ false

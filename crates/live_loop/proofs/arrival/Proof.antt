@@ -46,7 +46,7 @@ use Rattle.live_loop.proofs.Lending.{vals as dVals}
 use Rattle.live_loop.proofs.Walk.{Back, Known, moves, asks, tells, hands-back}
 use Rattle.live_loop.proofs.arrival as lent
 use Rattle.live_loop.proofs.arrival.Code as code
-use Rattle.live_loop.specs.Lent.{ArrivalHands}
+use Rattle.live_loop.specs.TwoForms.{ArrivalGives}
 
 abbrev stayed : Stays (lent.ended .signature .params) (lent.ended .kept)
 stayed = (stay-ref (0 ∷ []) tt (plain (λ _. D.the-row)), (stay-none (λ _. usize) yes, (stay-none (λ _. L.the-row) yes, tt)))
@@ -115,8 +115,8 @@ module _ {M : Type 1} (𝓤 : URA M) (H : Heap 𝓤) (A : Atoms 𝓤) (W : Given
           pass1 ! (init ! 4 refl (LL.lawful L.the-type L.Laws.the-laws 𝓤 H A W .typed cost _ is .0)) $ pass0 ! $
           -- [room for _5; …; room for _4; …; _3; …; _2; …; _1; …; room for _0; …; and the three from before]
           move ! (12 ∷ 13 ∷ 14 ∷ 0 ∷ 2 ∷ 8 ∷ 10 ∷ []) $
-          moves ! d back (ArrivalHands d server cost) known fm Arrival met to-arrival (asks 𝓤 H A W d rest had ok)
-          (tells 𝓤 H A W by-value.ended (by-value.clauses 𝓤 H A at-mem run) to-arrival (ArrivalHands d server cost) (λ r e. both-said 𝓤 _ _))
+          moves ! d back (λ r. ArrivalGives d server cost (r .answer) (r .dispatcher)) known fm Arrival met to-arrival (asks 𝓤 H A W d rest had ok)
+          (tells 𝓤 H A W by-value.ended (by-value.clauses 𝓤 H A at-mem run) to-arrival (λ r. ArrivalGives d server cost (r .answer) (r .dispatcher)) (λ r e. both-said 𝓤 _ _))
           refl refl (and-then ! (load ! (from ! (stop !)) (look ! 5 refl)) (and-then ! (load ! (from ! (stop !)) (look ! 13 refl))
           (and-then ! (load ! (from ! (stop !)) (look ! 11 refl)) (no-more !)))) (λ r e answer-had.
           -- [the same seven, the first at the dispatcher that is left; what frees _5 and _4; _3; …; _2; …; what frees _1 and _0]

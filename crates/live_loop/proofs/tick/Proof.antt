@@ -41,7 +41,7 @@ use Rattle.live_loop.proofs.Lending.{vals as dVals}
 use Rattle.live_loop.proofs.Walk.{Back, Known, moves, asks, tells, hands-back}
 use Rattle.live_loop.proofs.tick as lent
 use Rattle.live_loop.proofs.tick.Code as code
-use Rattle.live_loop.specs.Lent.{TickHands}
+use Rattle.live_loop.specs.TwoForms.{TickGives}
 
 abbrev stayed : Stays (lent.ended .signature .params) (lent.ended .kept)
 stayed = (stay-ref (0 ∷ []) tt (plain (λ _. D.the-row)), tt)
@@ -96,8 +96,8 @@ module _ {M : Type 1} (𝓤 : URA M) (H : Heap 𝓤) (A : Atoms 𝓤) (W : Given
           params1 ! $ pass1 ! (init ! 4 refl (tt, tt)) $ pass0 ! $
           -- [room for _3; …; room for _2; …; _1; …; room for _0; …; and the three from before]
           move ! (8 ∷ 9 ∷ 10 ∷ 0 ∷ 2 ∷ 4 ∷ 6 ∷ []) $
-          moves ! d back (TickHands d) known fm Tick met to-tick (asks 𝓤 H A W d ftrue (id⊢ 𝓤 _) ok)
-          (tells 𝓤 H A W by-value.ended (by-value.clauses 𝓤 H A at-mem run) to-tick (TickHands d) (λ r e. both-said 𝓤 _ _)) refl refl
+          moves ! d back (λ r. TickGives d (r .answer) (r .dispatcher)) known fm Tick met to-tick (asks 𝓤 H A W d ftrue (id⊢ 𝓤 _) ok)
+          (tells 𝓤 H A W by-value.ended (by-value.clauses 𝓤 H A at-mem run) to-tick (λ r. TickGives d (r .answer) (r .dispatcher)) (λ r e. both-said 𝓤 _ _)) refl refl
           (and-then ! (load ! (from ! (stop !)) (look ! 5 refl)) (no-more !)) (λ r e answer-had.
           -- [the same seven, the first at the dispatcher that is left; then what frees _3, _2, _1 and _0]
           move ! (6 ∷ 10 ∷ []) $ free1 ! $ move ! (5 ∷ 8 ∷ []) $ free1 ! $ move ! (4 ∷ 6 ∷ []) $ free1 ! $ move ! (3 ∷ 4 ∷ []) $ free1 ! $ free0 ! $

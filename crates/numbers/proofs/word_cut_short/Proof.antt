@@ -1,6 +1,6 @@
 -- `numbers::word_cut_short` meets its promise: it asks for the four bytes one by one.
 use borrow.Author.Needs.{needs}
-use Rattle.numbers.specs.Word.{word}
+use Rattle.numbers.specs.Word.{numberAt}
 use Rattle.numbers.proofs.word_cut_short.Statement.{statement}
 use Rattle.numbers.proofs.word_cut_short.Tie as tie
 
@@ -29,7 +29,7 @@ low-first-requires : tie.Need-low-first-requires
 low-first-requires c κs = search needs
 
 returns : tie.Need-returns
-unfolding word
+unfolding numberAt
 returns c =
     rw (
       ← c .before .before .before .before .byte-at .ensures,

@@ -1,6 +1,6 @@
 -- `numbers::word_inside` meets its promise: all four bytes are below the length.
 use borrow.Author.Needs.{needs}
-use Rattle.numbers.specs.Word.{word}
+use Rattle.numbers.specs.Word.{numberAt}
 use Rattle.numbers.proofs.word_inside.Statement.{statement}
 use Rattle.numbers.proofs.word_inside.Tie as tie
 
@@ -29,7 +29,7 @@ low-first-requires : tie.Need-low-first-requires
 low-first-requires c κs = search needs
 
 returns : tie.Need-returns
-unfolding word
+unfolding numberAt
 returns c = c .low-first .ensures
 
 pub word-inside-spec : {M : Type 1} → statement M

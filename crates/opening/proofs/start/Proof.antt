@@ -21,11 +21,11 @@ Inv-loop table frame count servers₀ k₀ servers k =
 abbrev μ-loop : tie.MeasureT-loop
 μ-loop table frame count servers₀ k₀ servers k = length table / 2 - k
 
-blank-requires : tie.Need-blank-requires Inv-loop μ-loop
-blank-requires c κs = search needs
+vacant-requires : tie.Need-vacant-requires Inv-loop μ-loop
+vacant-requires c κs = search needs
 
 loop-holds : tie.Need-loop-holds Inv-loop μ-loop
-loop-holds c = (omega arith, rw (c .blank .ensures) (start-none _))
+loop-holds c = (omega arith, rw (c .vacant .ensures) (start-none _))
 
 booking-at-requires : tie.Need-booking-at-requires Inv-loop μ-loop
 booking-at-requires c κs = omega (arith, c .loop-test .taken)
@@ -63,7 +63,7 @@ start-spec =
     (tie.spec
     Inv-loop
     μ-loop
-    blank-requires
+    vacant-requires
     loop-holds
     booking-at-requires
     fresh-requires

@@ -6,23 +6,20 @@ use lib.ListN.{length}
 use mathlib.Core.Path.{_≡_, sym, _∙_, ap}
 use native.Mathlib.Numerals.{add-one}
 use native.Mathlib.Omega.{arith}
-use Rattle.records.proofs.FilledLaws.{filled-none, filled-all, filled-more}
-use Rattle.records.specs.Records.{filled}
+use Rattle.records.specs.working.Job.{filled}
+use Rattle.records.proofs.FilledLaws.{filled-none, filled-more}
 use Rattle.records.proofs.fill.Statement.{statement}
 use Rattle.records.proofs.fill.Tie as tie
 
 abbrev Inv-loop : tie.InvT-loop
-Inv-loop n postponed interrupted servers all₀ i₀ all i = (i ≤ servers) × (all ≡ filled i postponed interrupted all₀)
+Inv-loop servers postponed interrupted all₀ i₀ all i = (i ≤ servers) × (all ≡ filled i postponed interrupted all₀)
 
 abbrev μ-loop : tie.MeasureT-loop
-μ-loop n postponed interrupted servers all₀ i₀ all i = servers - i
-
-least-requires : tie.Need-least-requires Inv-loop μ-loop
-least-requires c κs = search needs
+μ-loop servers postponed interrupted all₀ i₀ all i = servers - i
 
 loop-holds : tie.Need-loop-holds Inv-loop μ-loop
 loop-holds c =
-    let whole : length (c .before .args .records) ≡ 64 = search needs in (zero-le, sym (filled-none _ _ _ whole))
+    let whole : length (c .args .records) ≡ 64 = search needs in (zero-le, sym (filled-none _ _ _ whole))
 
 mul-with-counts : tie.Need-mul-with-counts Inv-loop μ-loop
 mul-with-counts c = omega arith
@@ -61,11 +58,10 @@ loop-again c =
 
 returns : tie.Need-returns Inv-loop μ-loop
 returns c =
-    let a = c .before .before .before .args in
+    let a = c .before .before .args in
     c .before .loop .inv .1
     ∙ ap (λ (k : ℕ). filled k (now (a .postponed)) (now (a .interrupted)) (a .records))
-    (omega (arith, c .loop-test .left, c .before .loop .inv .0, c .before .before .least .ensures))
-    ∙ filled-all _ _ _ (a .n)
+    (omega (arith, c .loop-test .left, c .before .loop .inv .0))
 
 pub fill-spec : {M : Type 1} → statement M
 fill-spec =
@@ -73,7 +69,6 @@ fill-spec =
     (tie.spec
     Inv-loop
     μ-loop
-    least-requires
     loop-holds
     mul-with-counts
     array-copy-out-with-counts

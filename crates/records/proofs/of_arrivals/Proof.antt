@@ -1,5 +1,5 @@
 -- `records::of_arrivals` meets its promise: after k turns the records are what the first k arrivals tell.
-use Prim.Native.Nat.{ℕ, _+_, _*_, _-_, _≤_}
+use Prim.Native.Nat.{ℕ, _+_, _*_, _-_, _≤_, min}
 use borrow.Author.Needs.{needs}
 use denote.Ref.{now}
 use mathlib.Core.List.{List}
@@ -8,7 +8,7 @@ use mathlib.Core.Path.{_≡_, _∙_, ap}
 use native.Mathlib.Numerals.{add-one}
 use native.Mathlib.Omega.{arith}
 use Rattle.arrival.specs.declared.Arrival.{Arrival}
-use Rattle.sizes.specs.Sizes.{arrivalBytes}
+use Rattle.sizes.specs.Sizes.{arrivalBytes, mostServers}
 use Rattle.workfile.specs.Layout.{arrivalAt, header}
 use Rattle.workfile.specs.Work.{work}
 use Rattle.records.specs.working.Job.{recordsUpTo}
@@ -23,11 +23,16 @@ read : (file : List ℕ) (from k : ℕ) {a : Arrival} → from ≡ header file .
 unfolding work
 read file from k starts e = e ∙ ap (λ (n : ℕ). arrivalAt file (n + arrivalBytes * k)) starts
 
+-- and as many servers are asked for as the table has, up to the records that there are
+held : (file : List ℕ) {servers : ℕ} → servers ≡ min (header file .servers .count) mostServers → servers ≡ min (work file .table .count) mostServers
+unfolding work
+held file e = e
+
 abbrev Inv-loop : tie.InvT-loop
-Inv-loop file from m finishes records₀ k₀ records k = (k ≤ m) × (records ≡ recordsUpTo (work file) finishes k)
+Inv-loop file servers from m finishes records₀ k₀ records k = (k ≤ m) × (records ≡ recordsUpTo (work file) finishes k)
 
 abbrev μ-loop : tie.MeasureT-loop
-μ-loop file from m finishes records₀ k₀ records k = m - k
+μ-loop file servers from m finishes records₀ k₀ records k = m - k
 
 blank-records-requires : tie.Need-blank-records-requires Inv-loop μ-loop
 blank-records-requires c κs = search needs
@@ -54,16 +59,14 @@ with-job-requires : tie.Need-with-job-requires Inv-loop μ-loop
 with-job-requires c κs =
     let turn = c .before .before .before .before .before in
     let start = turn .before .before .before .before in
+    let as-many = held (now (start .args .file)) (start .pre .0) in
     rw (c .before .with-job-arg .given, turn .loop .inv .1, c .finish-in .ensures)
     (records-roomy _ _ (λ j. omega (arith, turn .before .before .shared-slice-known2 .given j)) (turn .loop .k) _
-    (omega (arith, start .pre .1, turn .loop .inv .0))
-    (c .before .before .if1 .taken))
+    (omega (arith, start .pre .1 .1, turn .loop .inv .0))
+    (omega (arith, as-many, c .before .before .if1 .taken)))
 
-mul-records : tie.Need-mul-records Inv-loop μ-loop
-mul-records c = search needs
-
-array-set-from-records : tie.Need-array-set-from-records Inv-loop μ-loop
-array-set-from-records c = search needs
+with-record-requires : tie.Need-with-record-requires Inv-loop μ-loop
+with-record-requires c κs = search needs
 
 add-k : tie.Need-add-k Inv-loop μ-loop
 add-k c = omega arith
@@ -75,14 +78,17 @@ loop-again : tie.Need-loop-again Inv-loop μ-loop
 loop-again c =
     let turn = c .before .before .before in
     let start = turn .before .before .before .before in
-    let a-is = read (now (start .args .file)) (start .args .from) (turn .loop .k) (start .pre .0) (c .before .arrival-from .ensures) in (
+    let file = now (start .args .file) in
+    let a-is = read file (start .args .from) (turn .loop .k) (start .pre .1 .0) (c .before .arrival-from .ensures) in
+    let as-many = held file (start .pre .0) in (
       omega arith,
       rw add-one
           (⊎-elim
-          (λ w. w .4
+          (λ w. w .5
+          ∙ w .4 .ensures
           ∙ rw (w .3 .ensures, w .1 .given, w .2 .ensures)
-          (records-more _ _ (turn .loop .k) (turn .loop .inv .1) a-is (w .0 .taken)))
-          (λ w. w .1 ∙ records-stay _ _ (turn .loop .k) (turn .loop .inv .1) a-is (w .0 .left))
+          (records-more _ _ (turn .loop .k) (turn .loop .inv .1) a-is as-many (w .0 .taken)))
+          (λ w. w .1 ∙ records-stay _ _ (turn .loop .k) (turn .loop .inv .1) a-is as-many (w .0 .left))
           (c .if1 .came)),
     )
 
@@ -107,8 +113,7 @@ of-arrivals-spec =
     array-copy-out-with-job
     finish-in-requires
     with-job-requires
-    mul-records
-    array-set-from-records
+    with-record-requires
     add-k
     loop-less
     loop-again

@@ -6,7 +6,7 @@ use mathlib.Core.List.{List}
 use mathlib.Core.Path.{_≡_, sym, _∙_, ap}
 use Rattle.report.proofs.RanLaws.{ran-told, report-accepted, report-refused, Left}
 use Rattle.run.specs.declared.Ran.{Ran}
-use Rattle.run.specs.Outcome.{outcome, says}
+use Rattle.run.specs.Outcome.{outcome, runSays}
 use Rattle.sizes.specs.Sizes.{mostArrivals, traceNumbers}
 use Rattle.text.specs.Page.{Page}
 use Rattle.text.proofs.PageLaws.{added-as, added-length}
@@ -15,7 +15,7 @@ use Rattle.report.proofs.day_report.Tie as tie
 
 -- what the run has left
 left : (file list ends after ended : List ℕ) (r : Ran) → traceNumbers ≡ length list → mostArrivals ≡ length ends
-    → says r after ended ≡ outcome file list ends → Left file after ended r
+    → runSays r after ended ≡ outcome file list ends → Left file after ended r
 left file list ends after ended r list-long ends-long e =
     record { list = list; ends = ends; list-long = sym list-long; ends-long = sym ends-long; ran-is = e }
 

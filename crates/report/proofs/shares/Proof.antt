@@ -9,7 +9,7 @@ use native.Mathlib.Numerals.{add-one}
 use native.Mathlib.Omega.{arith}
 use Rattle.booking.specs.declared.Booking.{Booking}
 use Rattle.booking.proofs.AdmissionLaws.{Sofar, sofar-none, sofar-more, sofar-le}
-use Rattle.booking.specs.Share.{faulty, shareOf}
+use Rattle.booking.specs.Share.{faultyBooking, shareOf}
 use Rattle.booking.proofs.ShareLaws.{Sound, shareOf-faulty}
 use Rattle.books.proofs.Accepted.{booking-read, frame-read, servers-read}
 use Rattle.clock.specs.declared.Length.{Length}
@@ -18,7 +18,7 @@ use Rattle.report.proofs.shares.Statement.{statement}
 use Rattle.report.proofs.shares.Tie as tie
 
 -- a sound booking has no fault
-unfaulty : (H : Length) (b : Booking) → Sound H b → faulty H b ≡ false
+unfaulty : (H : Length) (b : Booking) → Sound H b → faultyBooking H b ≡ false
 unfaulty H b s =
     rw (
       ne-eqb (b .period .ticks) 0 (λ e. omega (arith, s .budget, s .fits)),

@@ -5,13 +5,10 @@ use mathlib.Core.List.{List}
 use mathlib.Core.Path.{_≡_}
 use Rattle.books.proofs.Accepted.{Accepted}
 use Rattle.finish.specs.Finish.{finishOf, finishList}
-use Rattle.moments.specs.Moments.{history}
 use Rattle.sizes.specs.Sizes.{mostArrivals, traceNumbers}
-use Rattle.summary.specs.Summary.{finishes, summaries}
+use Rattle.summary.specs.Summary.{traceOf, finishes, summaries}
 use Rattle.summary.specs.declared.Summary.{Summary}
-use Rattle.trace.specs.Trace.{trace}
 use Rattle.trace.specs.Written.{written}
-use Rattle.trace.specs.declared.Segment.{Segment}
 use Rattle.workfile.specs.Work.{Work, work}
 use Rattle.report.specs.DayReport.{jobWith}
 
@@ -19,12 +16,8 @@ use Rattle.report.specs.DayReport.{jobWith}
 abbrev pub jobIn : Work → List ℕ → ℕ → List ℕ
 jobIn w ends k = jobWith (w .arrival k) k (finishOf (getD ends k 0))
 
--- the whole trace of a work
-abbrev pub traceOf : Work → List Segment
-traceOf w = trace (history w) (w .horizon .tick)
-
 -- What the report has of a file that was accepted, when the run is over: its lists, the count and the records.
-pub record Told (file list ends : List ℕ) (segments : ℕ) (records : List Summary) : Type 0 where
+pub record AfterRun (file list ends : List ℕ) (segments : ℕ) (records : List Summary) : Type 0 where
   pub accepted : Accepted file
   pub listBefore : List ℕ
   pub endsBefore : List ℕ

@@ -3,7 +3,7 @@ use borrow.Author.Needs.{needs}
 use mathlib.Core.Path.{refl, sym, _∙_, ap}
 use Rattle.refusal.specs.declared.Verdict.{Verdict}
 use Rattle.refusal.specs.Refusals.{onPaper}
-use Rattle.run.specs.Outcome.{says}
+use Rattle.run.specs.Outcome.{runSays}
 use Rattle.run.proofs.OutcomeLaws.{made, outcome-accepted, outcome-refused}
 use Rattle.run.proofs.run.Statement.{statement}
 use Rattle.run.proofs.run.Tie as tie
@@ -25,7 +25,7 @@ returns c =
     let told = c .before .enum-told2 .given .1 in
     let a = c .before .before .before .before .before .before .before .args in
     ap
-    (λ (v : Verdict). says (record { verdict = v; segments = 0; summaries = c .blank-records .result }) (a .list .now) (a .finishes .now))
+    (λ (v : Verdict). runSays (record { verdict = v; segments = 0; summaries = c .blank-records .result }) (a .list .now) (a .finishes .now))
     told
     ∙ made _ refl (c .blank-records .ensures) refl refl
     ∙ sym (outcome-refused _ _ _ (sym (c .before .before .before .judge .ensures) ∙ ap onPaper told))

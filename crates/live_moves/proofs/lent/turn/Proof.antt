@@ -57,7 +57,6 @@ use Rattle.dispatcher.proofs.Dispatcher as D
 use Rattle.dispatcher.proofs.Dispatcher.Laws as D′
 use Rattle.dispatcher.proofs.TickAnswer as T
 use Rattle.dispatcher.proofs.TickAnswer.Laws as T′
-use Rattle.live_loop.specs.Lent.{leaving}
 use Rattle.live_loop.proofs.arrival as lent-arrival
 use Rattle.live_loop.proofs.tick as lent-tick
 use Rattle.refusal.specs.declared.Verdict.{Verdict}
@@ -264,7 +263,7 @@ module _ {M : Type 1} (𝓤 : URA M) (H : Heap 𝓤) (A : Atoms 𝓤) (W : Given
                 -- [what the tick asks; the locals]
                 calls-at ! fm (Ticks 𝓤 H A at-mem run) (known .0) to-tick (and-then ! (held ! 11 refl) (no-more !)) (λ v.
                 told T.the-row (Dispatcher × Unit {0}) (λ ws. ws .0) (λ ws. ftrue)
-                (λ r d. leaving (moves.turnOf r) d ≡ moves.tick h) v tt (id⊢ 𝓤 _) (λ r d e within is-r.
+                (λ r d. moves.leaving (moves.turnOf r) d ≡ moves.tick h) v tt (id⊢ 𝓤 _) (λ r d e within is-r.
                 -- [what the answer owns; the token; what the dispatcher is at last; the locals]
                 land ! (from ! (stop !)) (init ! 12 refl (LL.lawful T.the-type T′.the-laws 𝓤 H A W tt .typed r _ is-r .0)) $
                 use1 W (raw (SaysTick 𝓤 H A at-mem run .pre (to-say-tick r v w))) (goes-say-tick is-now r v w) $
@@ -301,7 +300,7 @@ module _ {M : Type 1} (𝓤 : URA M) (H : Heap 𝓤) (A : Atoms 𝓤) (W : Given
                   calls-at ! fm (Arrives 𝓤 H A at-mem run) (known .2) (to-arrival s c) (and-then ! (held ! 14 refl)
                   (and-then ! (held ! 6 refl) (and-then ! (held ! 7 refl) (no-more !)))) (λ v.
                   told Vd.the-row (Dispatcher × (Unit {0} × (Unit {0} × Unit {0}))) (λ ws. ws .0)
-                  (λ ws. fsep ftrue (fsep ftrue ftrue)) (λ r d. leaving (onPaper r) d ≡ moves.arrival h s c) v tt (id⊢ 𝓤 _)
+                  (λ ws. fsep ftrue (fsep ftrue ftrue)) (λ r d. moves.leaving (onPaper r) d ≡ moves.arrival h s c) v tt (id⊢ 𝓤 _)
                   (λ r d e within is-r.
                   land ! (from ! (stop !)) (init ! 15 refl (LL.lawful Vd.the-type Vd′.the-laws 𝓤 H A W tt .typed r _ is-r .0)) $
                   use1 W (raw (SaysArrival 𝓤 H A at-mem run .pre (to-say-arrival s c r v w)))

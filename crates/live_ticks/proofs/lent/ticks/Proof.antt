@@ -47,13 +47,12 @@ use denote.Triple.Walked.{says, needs, Stays, stay-none, walkOf, goes-none, ends
 use denote.Exit.{yes}
 use Rattle.dispatcher.specs.declared.Dispatcher.{Dispatcher}
 use Rattle.dispatcher.specs.declared.TickAnswer.{TickAnswer}
-use Rattle.dispatcher.specs.Moves.{turnOf, tick}
+use Rattle.dispatcher.specs.Moves.{leaving, turnOf, tick}
 use Rattle.dispatcher.specs.Within.{Within}
 use Rattle.dispatcher.proofs.Dispatcher as D
 use Rattle.dispatcher.proofs.Dispatcher.Laws as D′
 use Rattle.dispatcher.proofs.TickAnswer as R
 use Rattle.dispatcher.proofs.TickAnswer.Laws as R′
-use Rattle.live_loop.specs.Lent.{leaving}
 use Rattle.live_loop.proofs.Lending.{val, vals, laid, taken-up}
 use Rattle.live_loop.proofs.tick as lent
 use Rattle.walks.proofs.Steps.{ensured-tells, says-both}

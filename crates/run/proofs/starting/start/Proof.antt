@@ -24,11 +24,11 @@ abbrev μ-loop : tie.MeasureT-loop
 header-of-requires : tie.Need-header-of-requires Inv-loop μ-loop
 header-of-requires c κs = search needs
 
-blank-requires : tie.Need-blank-requires Inv-loop μ-loop
-blank-requires c κs = search needs
+vacant-requires : tie.Need-vacant-requires Inv-loop μ-loop
+vacant-requires c κs = search needs
 
 loop-holds : tie.Need-loop-holds Inv-loop μ-loop
-loop-holds c = (omega arith, rw (c .blank .ensures) (start-none _))
+loop-holds c = (omega arith, rw (c .vacant .ensures) (start-none _))
 
 mul-booking-from : tie.Need-mul-booking-from Inv-loop μ-loop
 mul-booking-from c =
@@ -94,7 +94,7 @@ start-spec =
     Inv-loop
     μ-loop
     header-of-requires
-    blank-requires
+    vacant-requires
     loop-holds
     mul-booking-from
     booking-from-requires

@@ -19,7 +19,7 @@ use Rattle.books.proofs.spell.SpellKeeps.{spell-went}
 use Rattle.books.proofs.travel.Stands.{stands-clock}
 use Rattle.books.proofs.travel.ArrivalTaken.{Takes, takes, Taking, due-here, due-now, taking-more}
 use Rattle.books.proofs.travel.Travels.{Travels, travels-start, travels-taking, next-horizon-le}
-use Rattle.books.proofs.spell.SpellLeaves.{Went}
+use Rattle.books.proofs.spell.SpellLeaves.{SpellLeaves}
 use Rattle.books.proofs.travel.WholeRun.{list-whole, count-whole, finishes-whole, postponed-is, interrupted-is}
 use Rattle.clock.specs.declared.Moment.{Moment}
 use Rattle.dispatcher.specs.Pick.{serverAt}
@@ -353,7 +353,7 @@ element-set-from-server : tie.Need-element-set-from-server Inv-loop2 μ-loop2 In
 element-set-from-server c = here (opening (c .before .before .before .before))
 
 went : (g : tie.After-go Inv-loop2 μ-loop2 Inv-loop μ-loop)
-    → Went (now (opening g)) (picked (opening g)) (serverAt (settled (opening g) .before .loop2 .d) (picked (opening g)))
+    → SpellLeaves (now (opening g)) (picked (opening g)) (serverAt (settled (opening g) .before .loop2 .d) (picked (opening g)))
     (getD (left (opening g)) (picked (opening g)) 0)
     (next (opening g) - now (opening g))
     (settled (opening g) .before .before .before .loop .c)
@@ -371,7 +371,7 @@ went : (g : tie.After-go Inv-loop2 μ-loop2 Inv-loop μ-loop)
 went g =
     subst
     (λ (rest : ℕ).
-    Went (now (opening g)) (picked (opening g)) (serverAt (settled (opening g) .before .loop2 .d) (picked (opening g))) rest
+    SpellLeaves (now (opening g)) (picked (opening g)) (serverAt (settled (opening g) .before .loop2 .d) (picked (opening g))) rest
     (next (opening g) - now (opening g))
     (settled (opening g) .before .before .before .loop .c)
     (settled (opening g) .before .loop2 .keys)
