@@ -1,5 +1,5 @@
 // The live ticks of document 01 in plain C, for a reader who knows C and that document: one dispatcher in static memory, which every
-// move alters in place. It uses nothing of the Rattle code. bench/ticks takes it as what the proved program live_ticks is measured
+// move alters in place. It uses nothing of the Rattle code. bench/ticks takes it as what the proved program bench_live_ticks is measured
 // against, and holds the two to the same output.
 //
 // Standard input: a work file. Its table becomes the dispatcher, its arrivals of moment 0 are taken, and the clock ticks as often as its

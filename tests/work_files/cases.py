@@ -1,4 +1,4 @@
-"""Writes stdin (the script) and stdout (the expected output) into the current folder: `cd crates/work_files` first.
+"""Writes stdin (the script) and stdout (the expected output) into the current folder: `cd crates/test_work_files` first.
 
 Every hand-made case carries what was worked out by hand from document 01
 (verdict, and for the runs the segments, finishes or records); cases.py stops

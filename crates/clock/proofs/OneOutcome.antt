@@ -1,8 +1,8 @@
 -- Each promise of this crate allows one outcome.
 use Rattle.clock.proofs.later.Reads as later
 use Rattle.clock.proofs.until.Reads as until
-use Rattle.outcome.specs.OneOutcome.{OneOutcome}
-use Rattle.outcome.proofs.OneOutcomeLaws.{both-are}
+use Rattle.promise.specs.OneOutcome.{OneOutcome}
+use Rattle.promise.proofs.OneOutcomeLaws.{both-are}
 
 pub later-one : OneOutcome later.Post
 later-one l a x y at-x at-y p q = both-are p q

@@ -2,12 +2,11 @@
 -- any moment b from a on. The ticks that it gets from a on under deadlines no later than b, times its period, are at most (b minus a)
 -- times its budget. And at every moment, once that moment's arrivals are in, each server with work waiting has its deadline still ahead;
 -- so each tick ends no later than the deadline that it was given under, however far any society overruns."
-use Prim.Native.Nat.{ℕ, _*_, _≤_, _<_}
+use Prim.Native.Nat.{ℕ, _≤_, _<_}
 use mathlib.Core.Bool.{Bool, true, false}
 use mathlib.Core.List.{List}
 use mathlib.Core.Path.{_≡_}
 use Rattle.booking.specs.Admission.{Table, admission}
-use Rattle.clock.specs.Clock.{until}
 use Rattle.clock.specs.declared.Length.{Length}
 use Rattle.clock.specs.declared.Moment.{Moment}
 use Rattle.dispatcher.specs.Course.{Move, after}
@@ -18,37 +17,22 @@ use Rattle.dispatcher.specs.declared.Dispatcher.{Dispatcher}
 use Rattle.refusal.specs.Refusals.{gave, accepted}
 use Rattle.server.specs.Server.{idle}
 use Rattle.sizes.specs.Sizes.{mostFrame, mostServers}
-use Rattle.demand_3.specs.Got.{got}
+use Rattle.demand_3.specs.Got.{got, WithinBandwidth}
 
--- Of a table and its dispatcher at the start.
-module _ (start : Dispatcher) (t : Table) where
+-- Of a table and its dispatcher at the start:
+pub record Demand3 (start : Dispatcher) (t : Table) : Type 0 where
   -- Moves have led to where server i has no work waiting; the clock there shows the moment a, be it before, among or after the arrivals of
-  -- a. The ticks that it gets by any further moves under deadlines no later than b, times its period, are at most (b minus a) times its
-  -- budget. (So none where b is before a.)
-  abbrev pub Bandwidth : Type 0
-  Bandwidth =
-      (moves : List Move) (i : ℕ) → i < t .count → idle (serverAt (after start moves) i) ≡ true
+  -- a. The ticks that it gets by any further moves under deadlines no later than b are within its bandwidth. (So none where b is before a.)
+  pub bandwidth : (moves : List Move) (i : ℕ) → i < t .count → idle (serverAt (after start moves) i) ≡ true
       → (b : Moment) (further : List Move)
-      → got i b (after start moves) further * t .booking i .period .ticks
-      ≤ until (after start moves .clock) b .ticks * t .booking i .budget .ticks
-
-  -- wherever moves have led to, a server with work waiting has its deadline ahead
-  abbrev pub DeadlinesAhead : Type 0
-  DeadlinesAhead =
-      (moves : List Move) (i : ℕ) → i < t .count → idle (serverAt (after start moves) i) ≡ false
+      → WithinBandwidth (t .booking i) (after start moves .clock) b (got i b (after start moves) further)
+  -- Wherever moves have led to, a server with work waiting has its deadline ahead.
+  pub deadlines-ahead : (moves : List Move) (i : ℕ) → i < t .count → idle (serverAt (after start moves) i) ≡ false
       → after start moves .clock .tick < serverAt (after start moves) i .deadline .tick
-
-  -- and a tick that is given to a server ends no later than the deadline that it was given under
-  abbrev pub TicksInTime : Type 0
-  TicksInTime =
-      (moves : List Move) (i : ℕ) (deadline : Moment) (postponed : Bool)
+  -- And a tick that is given to a server ends no later than the deadline that it was given under.
+  pub ticks-in-time : (moves : List Move) (i : ℕ) (deadline : Moment) (postponed : Bool)
       → tick (after start moves) .answer ≡ gave (ranOne i deadline postponed)
       → tick (after start moves) .dispatcher .clock .tick ≤ deadline .tick
-
-  pub record Demand3 : Type 0 where
-    pub bandwidth : Bandwidth
-    pub deadlines-ahead : DeadlinesAhead
-    pub ticks-in-time : TicksInTime
 
 -- "On an admitted table, from a fresh start": of every frame and table within the sizes of the rules. `Demand3Laws` proves it.
 abbrev pub OnAdmittedTables : Type 0

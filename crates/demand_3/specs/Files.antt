@@ -1,10 +1,10 @@
 -- Demand 3 for the run of a work file, moment by moment.
-use Prim.Native.Nat.{ℕ, _+_, _-_, _*_, _≤_, _<_}
+use Prim.Native.Nat.{ℕ, _+_, _-_, _≤_, _<_}
 use mathlib.Core.Bool.{true, false}
 use mathlib.Core.List.{List}
 use mathlib.Core.Logic.{_⊎_}
 use mathlib.Core.Path.{_≡_}
-use Rattle.clock.specs.Clock.{moment, until}
+use Rattle.clock.specs.Clock.{moment}
 use Rattle.clock.specs.declared.Moment.{Moment}
 use Rattle.counting.specs.Count.{count}
 use Rattle.dispatcher.specs.Pick.{serverAt}
@@ -14,7 +14,7 @@ use Rattle.moments.specs.Moments.{atMoment, ready, history}
 use Rattle.refusal.specs.Refusals.{accepted}
 use Rattle.server.specs.Server.{idle}
 use Rattle.workfile.specs.Work.{Work, work}
-use Rattle.demand_3.specs.Got.{isUnder}
+use Rattle.demand_3.specs.Got.{isUnder, WithinBandwidth}
 
 module _ (w : Work) where
   -- the horizon N, at which the run stops
@@ -30,10 +30,9 @@ module _ (w : Work) where
   gotFrom i a b = count (N - a) (λ q. isUnder i b (history w (a + q)))
 
   pub record FileDemand3 : Type 0 where
-    -- "take a server and a moment a when it has no work waiting, and any moment b from a on": those ticks, "times its period, are at most
-    -- (b minus a) times its budget"
+    -- "take a server and a moment a when it has no work waiting, and any moment b from a on"
     pub bandwidth : (i a : ℕ) → i < w .table .count → NoWorkAt i a → (b : Moment)
-        → gotFrom i a b * w .table .booking i .period .ticks ≤ until (moment a) b .ticks * w .table .booking i .budget .ticks
+        → WithinBandwidth (w .table .booking i) (moment a) b (gotFrom i a b)
     -- "at every moment, once that moment's arrivals are in, each server with work waiting has its deadline still ahead"
     pub deadlines-ahead : (i a : ℕ) → i < w .table .count → a ≤ N → idle (serverAt (ready w a) i) ≡ false
         → a < serverAt (ready w a) i .deadline .tick

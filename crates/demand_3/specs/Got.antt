@@ -1,8 +1,10 @@
--- The ticks that a server gets in a course of moves on a live dispatcher.
-use Prim.Native.Nat.{ℕ, _+_}
+-- The ticks that a server gets in a course of moves on a live dispatcher, and how many demand 3 allows.
+use Prim.Native.Nat.{ℕ, _+_, _*_, _≤_}
 use lib.Dec.{eqb, leb}
 use mathlib.Core.Bool.{Bool, false, cond, _&&_}
 use mathlib.Core.List.{List, [], _∷_}
+use Rattle.booking.specs.declared.Booking.{Booking}
+use Rattle.clock.specs.Clock.{until}
 use Rattle.clock.specs.declared.Moment.{Moment}
 use Rattle.dispatcher.specs.Course.{Move, anArrival, aTick, moved}
 use Rattle.dispatcher.specs.Moves.{tick}
@@ -24,3 +26,8 @@ isUnder i b (given j deadline) = eqb i j && leb (deadline .tick) (b .tick)
 unfoldable pub got : ℕ → Moment → Dispatcher → List Move → ℕ
 got i b d [] = 0
 got i b d (m ∷ more) = cond (isUnder i b (givenBy d m)) 1 0 + got i b (moved d m) more
+
+-- so many ticks of a booking's server from a on, under deadlines no later than b, "times its period, are at most (b minus a) times its
+-- budget"
+abbrev pub WithinBandwidth : Booking → (a b : Moment) → ℕ → Type 0
+WithinBandwidth k a b ticks = ticks * k .period .ticks ≤ until a b .ticks * k .budget .ticks

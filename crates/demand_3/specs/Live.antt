@@ -1,10 +1,9 @@
 -- Demand 3 for whoever calls the live moves: what is known of the dispatcher that a caller holds, and of what the next tick answers.
-use Prim.Native.Nat.{ℕ, _*_, _≤_, _<_}
+use Prim.Native.Nat.{ℕ, _≤_, _<_}
 use mathlib.Core.Bool.{Bool, true, false}
 use mathlib.Core.List.{List}
 use mathlib.Core.Path.{_≡_}
 use Rattle.booking.specs.Admission.{Table}
-use Rattle.clock.specs.Clock.{until}
 use Rattle.clock.specs.declared.Length.{Length}
 use Rattle.clock.specs.declared.Moment.{Moment}
 use Rattle.dispatcher.specs.Course.{Move, after}
@@ -16,7 +15,7 @@ use Rattle.dispatcher.specs.declared.Ticked.{Ticked}
 use Rattle.opening.specs.Opening.{listed, tableJudged, opening}
 use Rattle.refusal.specs.Refusals.{accepted}
 use Rattle.server.specs.Server.{idle}
-use Rattle.demand_3.specs.Got.{got}
+use Rattle.demand_3.specs.Got.{got, WithinBandwidth}
 use Rattle.demand_3.specs.Demand3.{Demand3}
 
 -- moves have led from one dispatcher to another
@@ -34,7 +33,7 @@ pub record LedCounting (i : ℕ) (b : Moment) (start d : Dispatcher) (n : ℕ) :
 pub record LiveDemand3 (t : Table) (d : Dispatcher) : Type 0 where
   -- server i has no work waiting: so many ticks it gets by any moves from here to e, under deadlines no later than b
   pub bandwidth : (i : ℕ) → i < t .count → idle (serverAt d i) ≡ true → (b : Moment) (e : Dispatcher) (n : ℕ) → LedCounting i b d e n
-      → n * t .booking i .period .ticks ≤ until (d .clock) b .ticks * t .booking i .budget .ticks
+      → WithinBandwidth (t .booking i) (d .clock) b n
   -- a server with work waiting has its deadline ahead
   pub deadlines-ahead : (i : ℕ) → i < t .count → idle (serverAt d i) ≡ false → d .clock .tick < serverAt d i .deadline .tick
   -- a tick that answers a server and a deadline has ended by that deadline

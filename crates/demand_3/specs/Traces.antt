@@ -1,8 +1,8 @@
 -- Demand 3 for the trace of a work's run, segment by segment: of the whole trace, and of what a lent trace list holds of it. `TracesLaws`
 -- proves the first of every work that satisfies demand 3 moment by moment, and the second of every call of `run` that is accepted.
-use Prim.Native.Nat.{ℕ, _*_, _≤_, _<_}
+use Prim.Native.Nat.{ℕ, _≤_, _<_}
 use mathlib.Core.List.{List}
-use Rattle.clock.specs.Clock.{moment, until}
+use Rattle.clock.specs.Clock.{moment}
 use Rattle.clock.specs.declared.Moment.{Moment}
 use Rattle.counting.specs.Sum.{sum}
 use Rattle.summary.specs.Summary.{traceOf}
@@ -11,7 +11,7 @@ use Rattle.trace.specs.Ticks.{endOf, ticksOf, sumOver}
 use Rattle.trace.specs.Written.{fitting, segmentIn}
 use Rattle.trace.specs.declared.Segment.{Segment}
 use Rattle.workfile.specs.Work.{Work}
-use Rattle.demand_3.specs.Got.{isUnder}
+use Rattle.demand_3.specs.Got.{isUnder, WithinBandwidth}
 use Rattle.demand_3.specs.Files.{NoWorkAt}
 
 -- a segment, and so each of its ticks, ends no later than the deadline that it was given under
@@ -23,19 +23,14 @@ module _ (w : Work) where
   abbrev pub gotIn : (i a : ℕ) → Moment → Segment → ℕ
   gotIn i a b = ticksOf (isUnder i b) (moment a)
 
-  -- so many ticks of server i, times its period, "are at most (b minus a) times its budget"
-  abbrev pub WithinBandwidth : (i a : ℕ) → Moment → ℕ → Type 0
-  WithinBandwidth i a b got =
-      got * w .table .booking i .period .ticks ≤ until (moment a) b .ticks * w .table .booking i .budget .ticks
-
   -- the whole trace
   pub record TraceDemand3 : Type 0 where
     pub in-time : EverySegment InTime (traceOf w)
     pub bandwidth : (i a : ℕ) → i < w .table .count → NoWorkAt w i a → (b : Moment)
-        → WithinBandwidth i a b (sumOver (gotIn i a b) (traceOf w))
+        → WithinBandwidth (w .table .booking i) (moment a) b (sumOver (gotIn i a b) (traceOf w))
 
   -- the trace list after a run that answers so many segments: of as many as it holds
   pub record ListDemand3 (segments : ℕ) (list : List ℕ) : Type 0 where
     pub in-time : (k : ℕ) → k < fitting segments list → InTime (segmentIn list k)
     pub bandwidth : (i a : ℕ) → i < w .table .count → NoWorkAt w i a → (b : Moment)
-        → WithinBandwidth i a b (sum (fitting segments list) (λ k. gotIn i a b (segmentIn list k)))
+        → WithinBandwidth (w .table .booking i) (moment a) b (sum (fitting segments list) (λ k. gotIn i a b (segmentIn list k)))

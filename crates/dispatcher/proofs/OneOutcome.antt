@@ -1,6 +1,6 @@
 -- Each promise of this crate allows one outcome: what is said on paper tells the answer, and the dispatcher is given whole.
-use Rattle.outcome.specs.OneOutcome.{OneOutcome}
-use Rattle.outcome.proofs.OneOutcomeLaws.{both-are}
+use Rattle.promise.specs.OneOutcome.{OneOutcome}
+use Rattle.promise.proofs.OneOutcomeLaws.{both-are}
 use Rattle.refusal.specs.Refusals.{onPaper}
 use Rattle.refusal.proofs.OnPaperLaws.{verdict-told}
 use Rattle.dispatcher.proofs.arrival.Reads as arrival

@@ -1,6 +1,6 @@
 -- The promise of this crate allows one outcome: what is said on paper tells the verdict.
-use Rattle.outcome.specs.OneOutcome.{OneOutcome}
-use Rattle.outcome.proofs.OneOutcomeLaws.{both-are}
+use Rattle.promise.specs.OneOutcome.{OneOutcome}
+use Rattle.promise.proofs.OneOutcomeLaws.{both-are}
 use Rattle.refusal.proofs.OnPaperLaws.{verdict-told}
 use Rattle.judgement.proofs.judge.Reads as judge
 

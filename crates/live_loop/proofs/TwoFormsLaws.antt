@@ -9,7 +9,7 @@ use Rattle.dispatcher.specs.Moves.{Moved, leaving, Turn, turnOf}
 use Rattle.dispatcher.specs.Within.{Within}
 use Rattle.dispatcher.specs.declared.Dispatcher.{Dispatcher}
 use Rattle.dispatcher.specs.declared.TickAnswer.{TickAnswer}
-use Rattle.outcome.proofs.OneOutcomeLaws.{both-are}
+use Rattle.promise.proofs.OneOutcomeLaws.{both-are}
 use Rattle.refusal.proofs.OnPaperLaws.{verdict-told}
 use Rattle.refusal.specs.Refusals.{Said, onPaper}
 use Rattle.refusal.specs.declared.Verdict.{Verdict}

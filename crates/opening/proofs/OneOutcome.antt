@@ -1,7 +1,7 @@
 -- The promise of this crate allows one outcome: what is said on paper tells the verdict, and the dispatcher is given whole.
 use Rattle.dispatcher.proofs.MoveOnPaperLaws.{moved-told}
-use Rattle.outcome.specs.OneOutcome.{OneOutcome}
-use Rattle.outcome.proofs.OneOutcomeLaws.{both-are}
+use Rattle.promise.specs.OneOutcome.{OneOutcome}
+use Rattle.promise.proofs.OneOutcomeLaws.{both-are}
 use Rattle.refusal.specs.Refusals.{onPaper}
 use Rattle.refusal.proofs.OnPaperLaws.{verdict-told}
 use Rattle.opening.proofs.open_table.Reads as open-table

@@ -1,7 +1,7 @@
 -- Each promise of this crate allows one outcome: it says what the result is.
 use base.Logic.{id⊢}
-use Rattle.outcome.specs.OneOutcome.{OneOutcome}
-use Rattle.outcome.proofs.OneOutcomeLaws.{both-are}
+use Rattle.promise.specs.OneOutcome.{OneOutcome}
+use Rattle.promise.proofs.OneOutcomeLaws.{both-are}
 use Rattle.walks.specs.OneOutcome.{OneOutcomeWalked}
 use Rattle.walks.proofs.OneOutcomeLaws.{says-result}
 use Rattle.reader.proofs.arrival_from.Reads as arrival-from

@@ -1,7 +1,7 @@
 -- The promise of this crate allows one outcome: the text at exit and where the report ends in it are given whole.
 use mathlib.Core.Path.{ap}
-use Rattle.outcome.specs.OneOutcome.{OneOutcomeLent}
-use Rattle.outcome.proofs.OneOutcomeLaws.{both-are}
+use Rattle.promise.specs.OneOutcome.{OneOutcomeLent}
+use Rattle.promise.proofs.OneOutcomeLaws.{both-are}
 use Rattle.text.specs.Page.{Page}
 use Rattle.report.proofs.day_report.Reads as day-report
 

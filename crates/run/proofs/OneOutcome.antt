@@ -1,6 +1,6 @@
 -- The promise of this crate allows one outcome: what is said on paper tells the answer, and both lent lists are given whole.
-use Rattle.outcome.specs.OneOutcome.{OneOutcomeLent}
-use Rattle.outcome.proofs.OneOutcomeLaws.{both-are}
+use Rattle.promise.specs.OneOutcome.{OneOutcomeLent}
+use Rattle.promise.proofs.OneOutcomeLaws.{both-are}
 use Rattle.run.proofs.OutcomeOnPaperLaws.{lists, ran-told}
 use Rattle.run.proofs.run.Reads as run
 

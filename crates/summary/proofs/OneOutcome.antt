@@ -1,6 +1,6 @@
 -- Each promise of this crate allows one outcome.
-use Rattle.outcome.specs.OneOutcome.{OneOutcome}
-use Rattle.outcome.proofs.OneOutcomeLaws.{both-are}
+use Rattle.promise.specs.OneOutcome.{OneOutcome}
+use Rattle.promise.proofs.OneOutcomeLaws.{both-are}
 use Rattle.summary.proofs.blank_records.Reads as blank-records
 use Rattle.summary.proofs.with_record.Reads as with-record
 

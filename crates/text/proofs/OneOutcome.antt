@@ -1,7 +1,7 @@
 -- Each promise of this crate allows one outcome: the text at exit and the next place are given whole.
 use mathlib.Core.Path.{_≡_, ap}
-use Rattle.outcome.specs.OneOutcome.{OneOutcomeLent}
-use Rattle.outcome.proofs.OneOutcomeLaws.{both-are}
+use Rattle.promise.specs.OneOutcome.{OneOutcomeLent}
+use Rattle.promise.proofs.OneOutcomeLaws.{both-are}
 use Rattle.text.specs.Page.{Page}
 use Rattle.text.proofs.add.Reads as add
 use Rattle.text.proofs.add_byte.Reads as add-byte

@@ -1,7 +1,7 @@
 -- The promise of this crate allows one outcome: the lent list at exit is given whole.
 use mathlib.Core.Path.{refl}
-use Rattle.outcome.specs.OneOutcome.{OneOutcomeLent}
-use Rattle.outcome.proofs.OneOutcomeLaws.{both-are}
+use Rattle.promise.specs.OneOutcome.{OneOutcomeLent}
+use Rattle.promise.proofs.OneOutcomeLaws.{both-are}
 use Rattle.trace.proofs.write.Reads as write
 
 pub write-one : OneOutcomeLent write.Post (λ l e. e .0 .now)

@@ -3,7 +3,7 @@ use mathlib.Core.Path.{_≡_}
 use contract.Lifetimes.{Lfts}
 use denote.Triple.Clauses.{Ended}
 use denote.Triple.Entry.{Args, Res}
-use Rattle.outcome.proofs.OneOutcomeLaws.{both-are}
+use Rattle.promise.proofs.OneOutcomeLaws.{both-are}
 use Rattle.walks.specs.OneOutcome.{InEveryModel, Gives, OneOutcomeWalked}
 
 -- where a function's clauses say what its result is, they allow one

@@ -11,7 +11,7 @@ use ghost.Atoms.{Atoms}
 use prog.Memory.{Memory}
 use prog.Routine.{Routine}
 use prog.Wp.{Heap}
-use Rattle.outcome.specs.OneOutcome.{OneOutcome, OneOutcomeLent}
+use Rattle.promise.specs.OneOutcome.{OneOutcome, OneOutcomeLent}
 
 -- a function's clauses, in every model
 abbrev pub InEveryModel : Ended → Type 2

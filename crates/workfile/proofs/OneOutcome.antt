@@ -1,6 +1,6 @@
 -- Each promise of this crate allows one outcome.
-use Rattle.outcome.specs.OneOutcome.{OneOutcome}
-use Rattle.outcome.proofs.OneOutcomeLaws.{both-are}
+use Rattle.promise.specs.OneOutcome.{OneOutcome}
+use Rattle.promise.proofs.OneOutcomeLaws.{both-are}
 use Rattle.workfile.proofs.arrival_at.Reads as arrival-at
 use Rattle.workfile.proofs.booking_at.Reads as booking-at
 use Rattle.workfile.proofs.header_of.Reads as header-of
