@@ -1,14 +1,15 @@
 -- Admission case by case, and what it gives of an admitted table.
-use Prim.Native.Nat.{ℕ, suc, _+_, _*_, _≤_, _<_}
+use Prim.Native.Nat.{ℕ, suc, _+_, _*_, _/_, _≤_, _<_}
 use borrow.Author.Tests.{ltb-false, lt-ltb, le-ltb}
 use lib.Dec.{ltb}
 use mathlib.Core.Bool.{true, false}
-use mathlib.Core.Path.{_≡_, refl, sym, _∙_}
-use native.Mathlib.Nat.{le-refl, le-trans, not-suc-le-zero}
+use mathlib.Core.Path.{_≡_, refl, sym, _∙_, ap}
+use native.Mathlib.Nat.{le-refl, le-trans, le-of-mul-le-mul-right, mul-le-mul-right, not-suc-le-zero}
+use native.Mathlib.Omega.{arith}
 use Rattle.clock.specs.declared.Length.{Length}
 use Rattle.counting.proofs.BelowLaws.{below-suc}
 use Rattle.counting.proofs.FirstLaws.{first-is, first-none, first-before}
-use Rattle.counting.proofs.SumLaws.{sum-le}
+use Rattle.counting.proofs.SumLaws.{sum-le, sum-mono, sum-times}
 use Rattle.counting.specs.Sum.{sum}
 use Rattle.refusal.proofs.AcceptedLaws.{accepted-test}
 use Rattle.refusal.specs.Refusals.{refused, accepted}
@@ -87,3 +88,33 @@ module _ (H : Length) (t : Table) where
             (first-before (t .count) (λ j. faultyBooking H (t .booking j)) k (le-trans h (ltb-false _ _ (four .0))));
         within = ltb-false _ _ (five .0);
       }
+
+-- each share is its part of the frame: of a length M that the period divides, as many times as `times` says, it is Q × times
+part-exact : (H : Length) (t : Table) (M : ℕ) (times : ℕ → ℕ) → Admitted H t → (k : ℕ) → k < t .count
+    → times k * t .booking k .period .ticks ≡ M
+    → H .ticks * (t .booking k .budget .ticks * times k) ≤ M * share H (t .booking k) .ticks
+part-exact H t M times ok k b divides =
+    let Q = t .booking k .budget .ticks in
+    omega (
+      arith,
+      ap (λ (z : ℕ). Q * times k * z) (ok .sound k b .divides),
+      ap (λ (z : ℕ). Q * (H .ticks / t .booking k .period .ticks) * z) divides,
+    )
+
+-- Admission is "exactly 'the sum of Q/T is at most 1' of the sources". Without fractions: whatever M all periods divide, as many times as
+-- `times` says, the sum of Q × (M / T) is at most M.
+pub at-most-one : (H : Length) (t : Table) → 1 ≤ H .ticks → admission H t ≡ accepted → (M : ℕ) (times : ℕ → ℕ)
+    → ((k : ℕ) → k < t .count → times k * t .booking k .period .ticks ≡ M)
+    → sum (t .count) (λ k. t .booking k .budget .ticks * times k) ≤ M
+at-most-one H t some e M times divides =
+    let ok = admitted H t e in
+    le-of-mul-le-mul-right {k = H .ticks}
+    (omega (
+      arith,
+      sum-times (t .count) (H .ticks) (λ k. t .booking k .budget .ticks * times k),
+      sum-mono (t .count) (λ k. H .ticks * (t .booking k .budget .ticks * times k)) (λ k. M * share H (t .booking k) .ticks)
+          (λ k b. part-exact H t M times ok k b (divides k b)),
+      sum-times (t .count) M (λ k. share H (t .booking k) .ticks),
+      mul-le-mul-right M (ok .within),
+    ))
+    some

@@ -29,9 +29,12 @@ sound H b e =
 
 -- Where T divides H the share is exact: share × T = Q × H. It is Q/T of the frame, with nothing rounded, which is why the rules may add
 -- shares where the sources add fractions.
-pub share-exact : (H : Length) (b : Booking) → Sound H b → share H b .ticks * b .period .ticks ≡ b .budget .ticks * H .ticks
-share-exact H b s =
-    omega (arith, ap (λ (h : ℕ). b .budget .ticks * h) (s .divides))
+pub sound-exact : (H : Length) (b : Booking) → Sound H b → share H b .ticks * b .period .ticks ≡ b .budget .ticks * H .ticks
+sound-exact H b s = omega (arith, ap (λ (h : ℕ). b .budget .ticks * h) (s .divides))
+
+pub share-exact : (H : Length) (b : Booking) → faultyBooking H b ≡ false
+    → share H b .ticks * b .period .ticks ≡ b .budget .ticks * H .ticks
+share-exact H b e = sound-exact H b (sound H b e)
 
 -- with Q at most T a share is at most the frame
 pub share-le-frame : (H : Length) (b : Booking) → b .budget .ticks ≤ b .period .ticks → share H b .ticks ≤ H .ticks

@@ -14,10 +14,8 @@ booked Q T = record { budget = ticks Q; period = ticks T }
 -- refusal 4: "a server has T = 0, or T not dividing H, or Q = 0, or Q > T"
 abbrev pub faultyBooking : Length → Booking → Bool
 faultyBooking H b =
-    eqb (b .period .ticks) 0
-    || not (eqb (H .ticks % b .period .ticks) 0)
-    || eqb (b .budget .ticks) 0
-    || ltb (b .period .ticks) (b .budget .ticks)
+    eqb (b .period .ticks) 0 || not (eqb (H .ticks % b .period .ticks) 0)
+    || eqb (b .budget .ticks) 0 || ltb (b .period .ticks) (b .budget .ticks)
 
 -- "The share of a server is Q times (H divided by T)."
 abbrev pub share : Length → Booking → Length

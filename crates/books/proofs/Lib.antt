@@ -1,4 +1,5 @@
 pub mod Accepted
+pub mod SameWork
 pub mod budgets
 pub mod jobs
 pub mod spell

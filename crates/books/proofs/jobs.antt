@@ -1,6 +1,7 @@
 pub mod AllFinished
 pub mod AtLeastOne
 pub mod FinishList
+pub mod InOrder
 pub mod Jobs
 pub mod Lined
 pub mod Opened

@@ -5,6 +5,7 @@ pub mod BetweenEvents
 pub mod EventBooks
 pub mod Events
 pub mod IdleTime
+pub mod NoMoveRefused
 pub mod Stands
 pub mod Travels
 pub mod WholeRun

@@ -1,7 +1,7 @@
 -- Laws of how many numbers below a bound pass a test.
 use Prim.Native.Nat.{ℕ, zero, suc, _+_, _≤_, _<_}
-use mathlib.Core.Bool.{Bool, true, false}
-use mathlib.Core.Path.{_≡_, refl}
+use mathlib.Core.Bool.{Bool, true, false, cond}
+use mathlib.Core.Path.{_≡_, refl, ap₂}
 use native.Mathlib.Nat.{add-suc, add-zero}
 use native.Mathlib.Omega.{arith}
 use Rattle.counting.specs.Count.{count}
@@ -48,3 +48,10 @@ count-more n (suc k) p = rw (add-suc n k) (omega (arith, count-more n k p, count
 pub count-le : (n : ℕ) (p : ℕ → Bool) → count n p ≤ n
 count-le zero p = omega (arith, count-empty p)
 count-le (suc n) p = omega (arith, count-le n p, count-step n p .1)
+
+-- tests that agree below n pass as often there
+pub count-same : (n : ℕ) (p q : ℕ → Bool) → ((i : ℕ) → i < n → p i ≡ q i) → count n p ≡ count n q
+unfolding count
+count-same zero p q h = refl
+count-same (suc n) p q h =
+    ap₂ (λ (k : ℕ) (b : Bool). k + cond b 1 0) (count-same n p q (λ i b. h i (omega arith))) (h n (omega arith))

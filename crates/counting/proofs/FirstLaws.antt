@@ -1,7 +1,7 @@
 -- Laws of the first number below a bound that passes a test.
 use Prim.Native.Nat.{ℕ, zero, suc, _≤_, _<_, zero-le, suc-le-suc}
 use mathlib.Core.Bool.{Bool, true, false, cond}
-use mathlib.Core.Path.{_≡_, refl, ap, subst}
+use mathlib.Core.Path.{_≡_, refl, ap, ap₂, subst}
 use native.Mathlib.Nat.{le-of-suc-le-suc, le-trans, not-suc-le-zero}
 use Rattle.counting.specs.First.{first}
 
@@ -68,3 +68,11 @@ first-before (suc n) p (suc j) h = go (p zero) refl (first-before n (λ i. p (su
 -- one that is below n is the first below any greater bound
 pub first-more : (n m : ℕ) (p : ℕ → Bool) → first n p < n → n ≤ m → first m p ≡ first n p
 first-more n m p h b = first-is m p (first n p) (le-trans h b) (first-passes n p h) (λ j q. first-before n p j q)
+
+-- tests that agree below n have the same first number there
+pub first-same : (n : ℕ) (p q : ℕ → Bool) → ((i : ℕ) → i < n → p i ≡ q i) → first n p ≡ first n q
+unfolding first
+first-same zero p q h = refl
+first-same (suc n) p q h =
+    ap₂ (λ (b : Bool) (k : ℕ). cond b zero (suc k)) (h zero (suc-le-suc zero-le))
+    (first-same n (λ i. p (suc i)) (λ i. q (suc i)) (λ i b. h (suc i) (suc-le-suc b)))

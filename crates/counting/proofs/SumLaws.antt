@@ -42,3 +42,9 @@ pub sum-times : (n k : ℕ) (f : ℕ → ℕ) → sum n (λ i. k * f i) ≡ k * 
 unfolding sum
 sum-times zero k f = omega arith
 sum-times (suc n) k f = omega (arith, sum-times n k f)
+
+-- numbers that agree below n have the same sum
+pub sum-same : (n : ℕ) (f g : ℕ → ℕ) → ((i : ℕ) → i < n → f i ≡ g i) → sum n f ≡ sum n g
+unfolding sum
+sum-same zero f g h = omega arith
+sum-same (suc n) f g h = omega (arith, sum-same n f g (λ i b. h i (omega arith)), h n (omega arith))

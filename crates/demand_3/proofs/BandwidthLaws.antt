@@ -11,7 +11,7 @@ use mathlib.Core.Path.{_≡_, refl, sym, ap}
 use native.Mathlib.Nat.{le-of-mul-le-mul-right, le-trans, mul-le-mul-right}
 use native.Mathlib.Omega.{arith}
 use Rattle.booking.proofs.AdmissionLaws.{Admitted}
-use Rattle.booking.proofs.ShareLaws.{share-exact}
+use Rattle.booking.proofs.ShareLaws.{sound-exact}
 use Rattle.booking.specs.Admission.{Table}
 use Rattle.booking.specs.Share.{share}
 use Rattle.clock.specs.Clock.{ticks, until}
@@ -97,7 +97,7 @@ module _ {H : Length} {t : Table} (admitted : Admitted H t) (b : Moment) where
       (omega (
         arith,
         mul-le-mul-right (t .booking i .period .ticks) (le-trans (got-paid ok i known moves) share-from-here),
-        ap (λ (x : ℕ). until (d .clock) b .ticks * x) (share-exact H (t .booking i) (admitted .sound i known)),
+        ap (λ (x : ℕ). until (d .clock) b .ticks * x) (sound-exact H (t .booking i) (admitted .sound i known)),
       ))
       some
     where

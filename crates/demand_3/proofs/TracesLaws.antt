@@ -10,7 +10,6 @@ use native.Mathlib.Omega.{arith}
 use Rattle.books.proofs.jobs.AllFinished.{list-finished-idle}
 use Rattle.clock.specs.Clock.{moment}
 use Rattle.dispatcher.specs.Pick.{serverAt}
-use Rattle.judgement.proofs.FitLaws.{judged-fit}
 use Rattle.moments.specs.Moments.{atMoment, history, waitingAt}
 use Rattle.refusal.specs.declared.Verdict.the-variants.{Accepted}
 use Rattle.run.proofs.OutcomeLaws.{ran-judged, ran-accepting}
@@ -86,6 +85,6 @@ module _ (file list ends after ended : List ℕ) (r : Ran) (said : runSays r aft
   ran-no-work i a within told =
       inl
       (eq-eqb (serverAt (atMoment (work file) a) i .waiting .ticks) 0
-      (list-finished-idle ends (judged-fit file (length ends) (ran-judged file list ends after ended r said answer)) a i within
+      (list-finished-idle file ends (ran-judged file list ends after ended r said answer) a i within
       (λ k listed own early.
       rw (ap (λ (o : Outcome). o .finishesLeft) (ran-accepting file list ends after ended r said answer)) at (told k listed own early))))

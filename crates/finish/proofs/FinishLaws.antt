@@ -18,7 +18,7 @@ use Rattle.finish.specs.Finish.{firstServed, isOpen, finishedAt, servedB
 -- Of server i and an amount of work.
 module _ (h : History) (i work : ℕ) where
   -- the ticks before an earlier moment are no more
-  served-to : (t u : ℕ) → t ≤ u → ticksServed h i t ≤ ticksServed h i u
+  pub served-to : (t u : ℕ) → t ≤ u → ticksServed h i t ≤ ticksServed h i u
   served-to t u le = subst (λ (v : ℕ). ticksServed h i t ≤ ticksServed h i v) (add-sub-of-le le) (served-more h i t (u - t))
 
   abbrev reached : ℕ → Bool
@@ -79,23 +79,35 @@ module _ (h : History) (i work : ℕ) where
       go (yes less) = finish-open u (omega arith) ∙ sym (finish-open t less)
       go (no more) = finish-stays t u (omega arith) le
 
-  -- what has finished at t has its work served by t
-  finish-served : (N t : ℕ) → servedBy h i work N ≡ finishedAt (moment t) → ticksServed h i t ≡ work
+  -- what has finished at t has its work served by t, which is no later than the horizon
+  pub finish-served : (N t : ℕ) → servedBy h i work N ≡ finishedAt (moment t) → (ticksServed h i t ≡ work) × (t ≤ N)
   unfolding servedBy firstServed
   finish-served N t e = go (leb (first (suc N) reached) N) refl
     where
-      go : (b : Bool) → leb (first (suc N) reached) N ≡ b → ticksServed h i t ≡ work
+      go : (b : Bool) → leb (first (suc N) reached) N ≡ b → (ticksServed h i t ≡ work) × (t ≤ N)
       go true l =
-          let found : first (suc N) reached < suc N = omega (arith, leb-true (first (suc N) reached) N l) in
-          let same : finishedAt (moment (first (suc N) reached)) ≡ finishedAt (moment t) = subst (λ (b : Bool). cond b (finishedAt (moment (first (suc N) reached))) isOpen ≡ finishedAt (moment t)) l e in
+          let by : first (suc N) reached ≤ N = leb-true (first (suc N) reached) N l in
+          let same : finishedAt (moment (first (suc N) reached)) ≡ finishedAt (moment t)
+          = subst (λ (b : Bool). cond b (finishedAt (moment (first (suc N) reached))) isOpen ≡ finishedAt (moment t)) l e in
           let at-t : moment (first (suc N) reached) ≡ moment t = cc in
-          subst (λ (u : Moment). ticksServed h i (u .tick) ≡ work) at-t
-          (eqb-true (ticksServed h i (first (suc N) reached)) work (first-passes (suc N) reached found))
+          subst (λ (u : Moment). (ticksServed h i (u .tick) ≡ work) × (u .tick ≤ N)) at-t
+          (eqb-true (ticksServed h i (first (suc N) reached)) work (first-passes (suc N) reached (omega arith)), by)
       go false l =
-          let never : isOpen ≡ finishedAt (moment t) = subst (λ (b : Bool). cond b (finishedAt (moment (first (suc N) reached))) isOpen ≡ finishedAt (moment t)) l e in
+          let never : isOpen ≡ finishedAt (moment t)
+          = subst (λ (b : Bool). cond b (finishedAt (moment (first (suc N) reached))) isOpen ≡ finishedAt (moment t)) l e in
           let none : _≡_ {A = ℕ} 0 1 = cc in
           let no : ⊥ = omega arith in
           absurd no
+
+  -- and what is served by t has finished by then, when that was served
+  pub finish-found : (t : ℕ) → work ≤ ticksServed h i t → (u : ℕ) × (servedBy h i work t ≡ finishedAt (moment u)) × (ticksServed h i u ≡ work)
+  unfolding servedBy firstServed
+  finish-found t more =
+      let found : first (suc t) reached < suc t = first-reached t more in (
+        first (suc t) reached,
+        rw (le-leb (first (suc t) reached) t (omega arith)),
+        eqb-true (ticksServed h i (first (suc t) reached)) work (first-passes (suc t) reached found),
+      )
 
   -- so it finishes after every moment by which less was served
   pub finish-after : (N t u : ℕ) → servedBy h i work N ≡ finishedAt (moment t) → ticksServed h i u < work → u < t
@@ -103,7 +115,7 @@ module _ (h : History) (i work : ℕ) where
     where
       go : Dec (u < t) → u < t
       go (yes l) = l
-      go (no l) = let no : ⊥ = omega (arith, finish-served N t e, served-to t u (omega arith)) in absurd no
+      go (no l) = let no : ⊥ = omega (arith, finish-served N t e .0, served-to t u (omega arith)) in absurd no
 
   -- "Zero is never a finish."
   pub finish-not-zero : (N t : ℕ) → 0 < work → servedBy h i work N ≡ finishedAt (moment t) → 0 < t

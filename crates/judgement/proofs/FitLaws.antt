@@ -1,5 +1,5 @@
 -- What the work of an accepted file has.
-use Prim.Native.Nat.{ℕ, zero, suc, _≤_, _<_}
+use Prim.Native.Nat.{ℕ, zero, suc, _≤_, _<_, _+_, _*_}
 use borrow.Author.Tests.{leb-false, ltb-false}
 use lib.Dec.{ltb}
 use lib.ListN.{length}
@@ -16,10 +16,10 @@ use Rattle.booking.specs.Admission.{admission}
 use Rattle.counting.proofs.BelowLaws.{below-suc}
 use Rattle.refusal.proofs.AcceptedLaws.{accepted-test, accepted-both}
 use Rattle.refusal.specs.Refusals.{accepted}
-use Rattle.sizes.specs.Sizes.{clockEnd, mostArrivals, mostFrame, mostServers}
+use Rattle.sizes.specs.Sizes.{clockEnd, mostArrivals, mostFrame, mostServers, arrivalBytes, headerBytes, serverBytes}
 use Rattle.workfile.specs.Layout.{header}
 use Rattle.workfile.specs.Work.{Work, work}
-use Rattle.judgement.specs.Judgement.{lengthOutOfRange, sizesOutOfRange, layoutBroken, backward, late, arrivalJudged, arrivalsJudged, workJudged, judged, Laid}
+use Rattle.judgement.specs.Judgement.{lengthOutOfRange, sizesOutOfRange, layoutBroken, backward, late, arrivalJudged, arrivalsJudged, workJudged, judged}
 use Rattle.judgement.proofs.JudgementLaws.{sized, laid}
 
 pub record Fit (w : Work) (places : ℕ) : Type 0 where
@@ -74,9 +74,13 @@ module _ (file : List ℕ) (places : ℕ) (e : judged file places ≡ accepted) 
       let three = accepted-test 3 0 (layoutBroken (header file) (length file)) _ (two .1) in
       (two .0, three .0, three .1)
 
-  -- the records of an accepted file lie in the file, each whole
-  pub judged-laid : Laid (header file) (length file)
-  judged-laid = laid (header file) (length file) (three-passed .1)
+  -- the records of an accepted file lie in the file, each whole, behind the header and behind one another
+  pub judged-laid : (headerBytes ≤ header file .servers .offset)
+      × (header file .servers .offset + serverBytes * header file .servers .count ≤ header file .arrivals .offset)
+      × (header file .arrivals .offset + arrivalBytes * header file .arrivals .count ≤ length file)
+  judged-laid =
+      let lies = laid (header file) (length file) (three-passed .1) in
+      (lies .servers-from, lies .arrivals-from, lies .arrivals-to)
 
   -- and its work fits
   pub judged-fit : Fit (work file) places

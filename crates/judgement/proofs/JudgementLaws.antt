@@ -1,5 +1,5 @@
 -- The judgement of a file case by case, and what a header has that passes 2 and 3.
-use Prim.Native.Nat.{ℕ, _<_}
+use Prim.Native.Nat.{ℕ, _<_, _≤_, _+_, _*_}
 use borrow.Author.Tests.{ltb-false}
 use lib.Dec.{ltb}
 use lib.ListN.{getD, length}
@@ -10,11 +10,11 @@ use Rattle.booking.specs.Admission.{admission}
 use Rattle.counting.proofs.TestLaws.{none-of-three}
 use Rattle.numbers.proofs.WordLaws.{word-fits}
 use Rattle.refusal.specs.Refusals.{refused, accepted}
-use Rattle.sizes.specs.Sizes.{clockEnd, headerBytes, mostFrame}
+use Rattle.sizes.specs.Sizes.{clockEnd, headerBytes, mostFrame, arrivalBytes, serverBytes}
 use Rattle.workfile.specs.Layout.{header}
 use Rattle.workfile.specs.Work.{Work, workUnder, work}
 use Rattle.workfile.specs.declared.Header.{Header}
-use Rattle.judgement.specs.Judgement.{lengthOutOfRange, sizesOutOfRange, layoutBroken, workJudged, judged, Laid}
+use Rattle.judgement.specs.Judgement.{lengthOutOfRange, sizesOutOfRange, layoutBroken, workJudged, judged}
 use Rattle.judgement.specs.working.Header.{listJudged, Sized, Narrow}
 
 pub sized : (h : Header) → sizesOutOfRange h ≡ false → Sized h
@@ -34,6 +34,12 @@ pub narrow : (file : List ℕ) (h : Header) → h ≡ header file → ((i : ℕ)
 unfolding header
 narrow file h read byte =
     record { servers = rw read (word-fits file 12 byte); arrivals = rw read (word-fits file 20 byte) }
+
+-- what a header has beside so many bytes that is not refused by 3
+pub record Laid (h : Header) (bytes : ℕ) : Type 0 where
+  pub servers-from : headerBytes ≤ h .servers .offset
+  pub arrivals-from : h .servers .offset + serverBytes * h .servers .count ≤ h .arrivals .offset
+  pub arrivals-to : h .arrivals .offset + arrivalBytes * h .arrivals .count ≤ bytes
 
 pub laid : (h : Header) (bytes : ℕ) → layoutBroken h bytes ≡ false → Laid h bytes
 laid h bytes e =

@@ -3,3 +3,4 @@ pub mod JudgementLaws
 pub mod OneOutcome
 pub mod PassedLaws
 pub mod RefusedLaws
+pub mod UnusedLaws

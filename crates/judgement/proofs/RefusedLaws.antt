@@ -4,7 +4,7 @@ use lib.Dec.{ltb}
 use lib.ListN.{length}
 use mathlib.Core.Bool.{Bool, true, false, cond}
 use mathlib.Core.List.{List}
-use mathlib.Core.Path.{_≡_, refl}
+use mathlib.Core.Path.{_≡_, refl, subst}
 use native.Mathlib.Nat.{le-trans}
 use native.Mathlib.Omega.{arith}
 use Rattle.arrival.specs.Arrival.{faultyArrival}
@@ -16,21 +16,23 @@ use Rattle.refusal.specs.Refusals.{Said, refused, gave, accepted, andThen}
 use Rattle.sizes.specs.Sizes.{mostArrivals}
 use Rattle.workfile.specs.Layout.{header}
 use Rattle.workfile.specs.Work.{Work, work}
-use Rattle.judgement.specs.Judgement.{lengthOutOfRange, sizesOutOfRange, layoutBroken, backward, late, arrivalJudged, arrivalsJudged, finishesJudged, workJudged, judged, Listed}
+use Rattle.judgement.specs.Judgement.{lengthOutOfRange, sizesOutOfRange, layoutBroken, backward, late, arrivalJudged, arrivalsJudged, finishesJudged, workJudged, judged}
 use Rattle.judgement.proofs.JudgementLaws.{sized}
 
+-- a refusal has a number to 9, and its place is no more than the most arrivals
+abbrev pub Listed : Said (Unit {0}) → Type 0
+Listed (refused n place) = (n ≤ 9) × (place ≤ mostArrivals)
+Listed (gave u) = Unit {0}
+
 accepted-listed : Listed accepted
-unfolding Listed
 accepted-listed = tt
 
 test-listed : (n place : ℕ) (test : Bool) (rest : Said (Unit {0})) → n ≤ 9 → place ≤ mostArrivals → (test ≡ false → Listed rest)
     → Listed (cond test (refused n place) rest)
-unfolding Listed
 test-listed n place true rest a b x = (a, b)
 test-listed n place false rest a b x = x refl
 
 and-listed : (a b : Said (Unit {0})) → Listed a → Listed b → Listed (andThen a b)
-unfolding Listed
 and-listed (refused n place) b x y = x
 and-listed (gave u) b x y = y
 
@@ -70,3 +72,8 @@ judged-listed file places =
     (λ e. let fits = sized (header file) e in
     test-listed 3 0 (layoutBroken (header file) (length file)) _ (omega arith) (omega arith)
     (λ e. work-listed (work file) places (omega (arith, fits .servers)) (fits .arrivals))))
+
+-- "1, 2, 3, 4 (all servers), 5, then the arrivals in order, each by 6, 7, 8, then 9": no other number, and no place beyond the last arrival
+pub refused-listed : (file : List ℕ) (places number place : ℕ) → judged file places ≡ refused number place
+    → (number ≤ 9) × (place ≤ mostArrivals)
+refused-listed file places number place e = subst Listed e (judged-listed file places)

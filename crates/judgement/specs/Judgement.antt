@@ -1,13 +1,13 @@
 -- The refusals of a work file (document 01, "Refusal numbers"): "A file is judged 1, 2, 3, 4 (all servers), 5, then the arrivals in
 -- order, each by 6, 7, 8, then 9. So 6, 7 and 8 go with the first faulty arrival."
-use Prim.Native.Nat.{ℕ, zero, suc, _+_, _*_, _≤_}
+use Prim.Native.Nat.{ℕ, zero, suc, _+_, _*_}
 use lib.Dec.{leb, ltb}
 use lib.ListN.{length}
 use mathlib.Core.Bool.{Bool, false, cond, _||_}
 use mathlib.Core.List.{List}
 use Rattle.arrival.specs.Arrival.{faultyArrival}
 use Rattle.booking.specs.Admission.{admission}
-use Rattle.refusal.specs.Refusals.{Said, refused, accepted, andThen, gave}
+use Rattle.refusal.specs.Refusals.{Said, refused, accepted, andThen}
 use Rattle.sizes.specs.Sizes.{arrivalBytes, clockEnd, headerBytes, mostArrivals, mostFile, mostFrame, mostServers, serverBytes}
 use Rattle.workfile.specs.Layout.{header}
 use Rattle.workfile.specs.Work.{Work, work}
@@ -20,11 +20,8 @@ lengthOutOfRange bytes = ltb bytes headerBytes || ltb mostFile bytes
 -- 2: "H, N, n or m out of range"
 abbrev pub sizesOutOfRange : Header → Bool
 sizesOutOfRange h =
-    ltb (h .frame .ticks) 1
-    || ltb mostFrame (h .frame .ticks)
-    || ltb clockEnd (h .horizon .tick)
-    || ltb mostServers (h .servers .count)
-    || ltb mostArrivals (h .arrivals .count)
+    ltb (h .frame .ticks) 1 || ltb mostFrame (h .frame .ticks) || ltb clockEnd (h .horizon .tick)
+    || ltb mostServers (h .servers .count) || ltb mostArrivals (h .arrivals .count)
 
 -- 3: "an offset breaks the layout": "Server records start at or after byte 24; arrivals start at or after the end of the servers; the
 -- last arrival ends within the file." "Offsets count even where a count is 0."
@@ -70,14 +67,3 @@ judged file places =
     cond (lengthOutOfRange (length file)) (refused 1 0)
     (cond (sizesOutOfRange (header file)) (refused 2 0)
     (cond (layoutBroken (header file) (length file)) (refused 3 0) (workJudged (work file) places)))
-
--- what a header has beside so many bytes that is not refused by 3
-pub record Laid (h : Header) (bytes : ℕ) : Type 0 where
-  pub servers-from : headerBytes ≤ h .servers .offset
-  pub arrivals-from : h .servers .offset + serverBytes * h .servers .count ≤ h .arrivals .offset
-  pub arrivals-to : h .arrivals .offset + arrivalBytes * h .arrivals .count ≤ bytes
-
--- a refusal has a number to 9, and its place is no more than the most arrivals
-unfoldable pub Listed : Said (Unit {0}) → Type 0
-Listed (refused n place) = (n ≤ 9) × (place ≤ mostArrivals)
-Listed (gave u) = Unit {0}

@@ -9,8 +9,8 @@ use Rattle.booking.specs.Admission.{shares}
 use Rattle.books.proofs.jobs.FinishList.{response-by}
 use Rattle.history.specs.Choice.{Choice, nobody, given}
 use Rattle.judgement.proofs.FitLaws.{Fit, judged-fit}
-use Rattle.judgement.proofs.RefusedLaws.{judged-listed}
-use Rattle.judgement.specs.Judgement.{judged, Listed}
+use Rattle.judgement.proofs.RefusedLaws.{Listed, judged-listed}
+use Rattle.judgement.specs.Judgement.{judged}
 use Rattle.moments.proofs.GivenLaws.{InRange, history-in-range}
 use Rattle.moments.specs.Moments.{history}
 use Rattle.refusal.specs.Refusals.{Said, refused, gave}
@@ -106,7 +106,7 @@ module _ {w : Work} {places : ℕ} (fit : Fit w places) where
 
 -- no report is longer
 pub report-fits : (file : List ℕ) → length (dayReport file) ≤ mostBytes
-unfolding dayReport Listed
+unfolding dayReport
 report-fits file = go (judged file mostArrivals) refl (judged-listed file mostArrivals)
   where
     go : (said : Said (Unit {0})) → judged file mostArrivals ≡ said → Listed said → length (reportOf said (work file)) ≤ mostBytes

@@ -4,3 +4,4 @@ pub mod LineLengthLaws
 pub mod OneOutcome
 pub mod RanLaws
 pub mod ReportLaws
+pub mod UnusedBytes

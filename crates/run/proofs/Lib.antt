@@ -2,3 +2,4 @@ pub mod Climb
 pub mod OneOutcome
 pub mod OutcomeLaws
 pub mod OutcomeOnPaperLaws
+pub mod UnusedBytes

@@ -8,7 +8,7 @@ use mathlib.Core.Path.{_≡_, refl, sym, _∙_, ap}
 use native.Mathlib.Decide.{decLt}
 use native.Mathlib.Nat.{le-of-mul-le-mul-right, le-trans, mul-le-mul-right}
 use native.Mathlib.Omega.{arith}
-use Rattle.booking.proofs.ShareLaws.{Sound, share-exact}
+use Rattle.booking.proofs.ShareLaws.{Sound, sound-exact}
 use Rattle.clock.specs.Clock.{ticks, until}
 use Rattle.clock.specs.declared.Length.{Length}
 use Rattle.clock.specs.declared.Moment.{Moment}
@@ -75,7 +75,7 @@ module _ (H : Length) where
 
   module _ {s : Server} (ok : Booked s) where
     exact : ownShare H s * s .period .ticks ≡ s .budget .ticks * H .ticks
-    exact = share-exact H (bookingOf s) (ok .sound)
+    exact = sound-exact H (bookingOf s) (ok .sound)
 
     some : 1 ≤ s .period .ticks
     some = le-trans (ok .sound .budget) (ok .sound .fits)

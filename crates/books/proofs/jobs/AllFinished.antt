@@ -12,10 +12,12 @@ use Rattle.finish.proofs.FinishLaws.{finish-after}
 use Rattle.finish.proofs.ListLaws.{list-shows, shown-finished}
 use Rattle.finish.specs.Finish.{workOf, finishedAt, servedBy, finish, finishList}
 use Rattle.history.specs.Choice.{ticksServed}
-use Rattle.judgement.proofs.FitLaws.{Fit}
+use Rattle.judgement.proofs.FitLaws.{Fit, judged-fit}
+use Rattle.judgement.specs.Judgement.{judged}
 use Rattle.moments.specs.Moments.{history, waitingAt}
+use Rattle.refusal.specs.Refusals.{accepted}
 use Rattle.summary.specs.Summary.{finishes}
-use Rattle.workfile.specs.Work.{Work}
+use Rattle.workfile.specs.Work.{Work, work}
 use Rattle.books.proofs.travel.BeforeArrivals.{Before, stands-before, before-is}
 use Rattle.books.proofs.jobs.Jobs.{work-none, work-other}
 
@@ -52,12 +54,12 @@ module _ (w : Work) (a i : ℕ)
       go (no other) before = omega (arith, work-other w i j other)
 
 -- Where every job of server i that arrived before a moment has finished by then, it has no work waiting.
-pub finished-idle : {w : Work} {places : ℕ} → Fit w places → (a i : ℕ) → a ≤ w .horizon .tick
+idle-by : {w : Work} {places : ℕ} → Fit w places → (a i : ℕ) → a ≤ w .horizon .tick
     → ((k : ℕ) → k < w .arrivals → w .arrival k .server ≡ i → w .arrival k .moment .tick < a
-    → (t : ℕ) × (finish w (history w) (w .horizon .tick) k ≡ finishedAt (moment t)) × (t ≤ a))
+    → (t : ℕ) × (finishes w k ≡ finishedAt (moment t)) × (t ≤ a))
     → waitingAt w i a ≡ 0
 unfolding waitingAt
-finished-idle {w} fit a i within finished =
+idle-by {w} fit a i within finished =
     let b : Before w a = stands-before fit a within in
     omega (
       arith,
@@ -66,12 +68,21 @@ finished-idle {w} fit a i within finished =
       ap (λ (d : Dispatcher). serverAt d i .waiting .ticks) (before-is fit within b),
     )
 
--- the same, told from the finish list that a run leaves
-pub list-finished-idle : {w : Work} (before : List ℕ) → Fit w (length before) → (a i : ℕ) → a ≤ w .horizon .tick
-    → ((k : ℕ) → k < w .arrivals → w .arrival k .server ≡ i → w .arrival k .moment .tick < a
-    → getD (finishList (w .arrivals) (finishes w) before) k 0 ≤ a)
-    → waitingAt w i a ≡ 0
-list-finished-idle {w} before fit a i within told =
-    finished-idle fit a i within
+-- Of an accepted file.
+pub finished-idle : (file : List ℕ) (places : ℕ) → judged file places ≡ accepted → (a i : ℕ) → a ≤ work file .horizon .tick
+    → ((k : ℕ) → k < work file .arrivals → work file .arrival k .server ≡ i → work file .arrival k .moment .tick < a
+    → (t : ℕ) × (finishes (work file) k ≡ finishedAt (moment t)) × (t ≤ a))
+    → waitingAt (work file) i a ≡ 0
+finished-idle file places e = idle-by (judged-fit file places e)
+
+-- the same, told from the finish list that its run leaves
+pub list-finished-idle : (file before : List ℕ) → judged file (length before) ≡ accepted → (a i : ℕ) → a ≤ work file .horizon .tick
+    → ((k : ℕ) → k < work file .arrivals → work file .arrival k .server ≡ i → work file .arrival k .moment .tick < a
+    → getD (finishList (work file .arrivals) (finishes (work file)) before) k 0 ≤ a)
+    → waitingAt (work file) i a ≡ 0
+list-finished-idle file before e a i within told =
+    let w = work file in
+    let fit = judged-fit file (length before) e in
+    idle-by fit a i within
     (λ k listed own early. shown-finished (finishes w k) a (omega (arith, fit .horizon))
     (subst (λ (n : ℕ). n ≤ a) (list-shows (w .arrivals) (finishes w) before k listed (fit .finishes)) (told k listed own early)))

@@ -1,15 +1,19 @@
 -- A job finishes after the moment at which it arrives: by then the run has served no more than the earlier arrivals bring.
 use Prim.Native.Nat.{ℕ, suc, _<_}
+use mathlib.Core.List.{List}
 use mathlib.Core.Path.{_≡_, refl}
 use native.Mathlib.Decide.{decLt}
 use native.Mathlib.Omega.{arith}
 use Rattle.clock.specs.Clock.{moment}
 use Rattle.finish.proofs.FinishLaws.{finish-after}
-use Rattle.finish.specs.Finish.{workOf, finishedAt, finish}
+use Rattle.finish.specs.Finish.{workOf, finishedAt}
 use Rattle.history.specs.Choice.{ticksServed}
-use Rattle.judgement.proofs.FitLaws.{Fit}
+use Rattle.judgement.proofs.FitLaws.{Fit, judged-fit}
+use Rattle.judgement.specs.Judgement.{judged}
 use Rattle.moments.specs.Moments.{history}
-use Rattle.workfile.specs.Work.{Work}
+use Rattle.refusal.specs.Refusals.{accepted}
+use Rattle.summary.specs.Summary.{finishes}
+use Rattle.workfile.specs.Work.{Work, work}
 use Rattle.books.proofs.travel.BeforeArrivals.{Before, stands-before}
 use Rattle.books.proofs.jobs.Jobs.{work-own, work-to}
 
@@ -35,10 +39,11 @@ module _ {w : Work} {places : ℕ} (fit : Fit w places) where
           )
 
 -- "A job's response is finish minus arrival moment, at least 1."
-pub response-positive : {w : Work} {places : ℕ} → Fit w places → (k t : ℕ) → k < w .arrivals
-    → finish w (history w) (w .horizon .tick) k ≡ finishedAt (moment t) → w .arrival k .moment .tick < t
-response-positive {w} fit k t listed e =
+pub response-positive : (file : List ℕ) (places : ℕ) → judged file places ≡ accepted → (k t : ℕ) → k < work file .arrivals
+    → finishes (work file) k ≡ finishedAt (moment t) → work file .arrival k .moment .tick < t
+response-positive file places e k t listed finished =
+    let w = work file in
     finish-after (history w) (w .arrival k .server) (workOf w (w .arrival k .server) (suc k)) (w .horizon .tick) t
     (w .arrival k .moment .tick)
-    e
-    (unserved fit k listed)
+    finished
+    (unserved (judged-fit file places e) k listed)

@@ -17,7 +17,7 @@ use Rattle.counting.proofs.PlacesLaws.{getD-places, length-places}
 use Rattle.counting.proofs.SumLaws.{sum-le}
 use Rattle.counting.specs.Places.{places}
 use Rattle.dispatcher.proofs.MoveLaws.{arrival-whole}
-use Rattle.dispatcher.specs.Moves.{Moved, standing, arrival}
+use Rattle.dispatcher.specs.Moves.{Moved, leaving, standing, arrival}
 use Rattle.dispatcher.specs.Pick.{serverAt}
 use Rattle.dispatcher.specs.Start.{startAt, atStart}
 use Rattle.dispatcher.specs.Within.{Within}
@@ -28,6 +28,7 @@ use Rattle.history.specs.Choice.{ticksServed}
 use Rattle.judgement.proofs.FitLaws.{Fit}
 use Rattle.moments.proofs.MomentLaws.{taken-more, taken-rest, at-keeps, at-within, taken-within, taken-keeps}
 use Rattle.moments.specs.Moments.{taken, atMoment, ready, history}
+use Rattle.refusal.specs.Refusals.{accepted}
 use Rattle.server.proofs.MoveLaws.{arrived-waiting}
 use Rattle.server.specs.Moves.{arrived}
 use Rattle.server.specs.Server.{vacant, fresh}
@@ -106,14 +107,19 @@ module _ {w : Work} {places : ℕ} (fit : Fit w places) where
             mul-le-mul-right mostCost (fit .arrivals),
           )
 
-      pub accepted-as : arrival d (w .arrival j .server) (w .arrival j .cost) .dispatcher
-          ≡ standing d (d .clock) (set (d .servers) (w .arrival j .server) (arrived (serverAt d (w .arrival j .server)) (d .clock) (w .arrival j .cost)))
-      accepted-as =
-          ap (λ (m : Moved (Unit {0})). m .dispatcher)
-          (arrival-whole d (w .arrival j .server) (w .arrival j .cost)
+      pub accepted-whole : arrival d (w .arrival j .server) (w .arrival j .cost)
+          ≡ leaving accepted
+          (standing d (d .clock)
+          (set (d .servers) (w .arrival j .server) (arrived (serverAt d (w .arrival j .server)) (d .clock) (w .arrival j .cost))))
+      accepted-whole =
+          arrival-whole d (w .arrival j .server) (w .arrival j .cost)
           (subst⁻¹ (λ (n : ℕ). faultyArrival n (w .arrival j .server) (w .arrival j .cost) ≡ false) stands-count
           (not-faulty (w .table .count) (w .arrival j .server) (w .arrival j .cost) (fit .sound j more)))
-          room)
+          room
+
+      pub accepted-as : arrival d (w .arrival j .server) (w .arrival j .cost) .dispatcher
+          ≡ standing d (d .clock) (set (d .servers) (w .arrival j .server) (arrived (serverAt d (w .arrival j .server)) (d .clock) (w .arrival j .cost)))
+      accepted-as = ap (λ (m : Moved (Unit {0})). m .dispatcher) accepted-whole
 
       arrival-other : (k : ℕ) → (k ≡ w .arrival j .server → ⊥)
           → serverAt (arrival d (w .arrival j .server) (w .arrival j .cost) .dispatcher) k ≡ serverAt d k
