@@ -1,2 +1,2 @@
 pub mod ArrivalLaws
-pub mod OneOutcome
+pub mod Promises

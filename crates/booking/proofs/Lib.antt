@@ -1,3 +1,3 @@
 pub mod AdmissionLaws
-pub mod OneOutcome
+pub mod Promises
 pub mod ShareLaws

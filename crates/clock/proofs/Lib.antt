@@ -1,2 +1,2 @@
 pub mod ClockLaws
-pub mod OneOutcome
+pub mod Promises

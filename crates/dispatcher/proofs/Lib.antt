@@ -1,6 +1,6 @@
 pub mod MoveLaws
 pub mod MoveOnPaperLaws
-pub mod OneOutcome
 pub mod PickLaws
+pub mod Promises
 pub mod RefusedLaws
 pub mod StartLaws

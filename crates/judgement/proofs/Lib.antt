@@ -1,6 +1,6 @@
 pub mod FitLaws
 pub mod JudgementLaws
-pub mod OneOutcome
 pub mod PassedLaws
+pub mod Promises
 pub mod RefusedLaws
 pub mod UnusedLaws

@@ -1,6 +1,6 @@
 mod Walk
 pub mod Lending
-pub mod OneOutcome
+pub mod Promises
 pub mod RefusedLaws
 pub mod TwoForms
 pub mod TwoFormsLaws

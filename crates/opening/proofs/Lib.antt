@@ -1,2 +1,2 @@
-pub mod OneOutcome
 pub mod OpeningLaws
+pub mod Promises

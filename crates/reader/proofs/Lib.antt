@@ -3,5 +3,5 @@ mod Going
 mod Held
 mod Kind
 mod Taking
-pub mod OneOutcome
+pub mod Promises
 pub mod ReaderLaws

@@ -1,4 +1,4 @@
 pub mod FilledLaws
 pub mod GrowthLaws
-pub mod OneOutcome
+pub mod Promises
 pub mod RecordsLaws

@@ -1,3 +1,3 @@
 pub mod AcceptedLaws
 pub mod OnPaperLaws
-pub mod OneOutcome
+pub mod Promises

@@ -1,7 +1,7 @@
 pub mod AfterRunLaws
 pub mod LengthLaws
 pub mod LineLengthLaws
-pub mod OneOutcome
+pub mod Promises
 pub mod RanLaws
 pub mod ReportLaws
 pub mod UnusedBytes

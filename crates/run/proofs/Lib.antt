@@ -1,5 +1,5 @@
 pub mod Climb
-pub mod OneOutcome
 pub mod OutcomeLaws
 pub mod OutcomeOnPaperLaws
+pub mod Promises
 pub mod UnusedBytes

@@ -8,20 +8,13 @@ use Rattle.summary.specs.declared.Summary.{Summary}
 use Rattle.run.specs.declared.Ran.{Ran}
 use Rattle.run.specs.Outcome.{Outcome, runSays}
 
--- the two lent lists
-pub record Lists : Type 0 where
-  pub traceList : List ℕ
-  pub finishList : List ℕ
-
-abbrev pub lists : List ℕ → List ℕ → Lists
-lists l e = record { traceList = l; finishList = e }
-
-pub ran-told : (r s : Ran) (l k e f : List ℕ) → runSays r l e ≡ runSays s k f → (r ≡ s) × (lists l e ≡ lists k f)
+pub ran-told : (r s : Ran) (l k e f : List ℕ) → runSays r l e ≡ runSays s k f
+    → (r ≡ s) × (_≡_ {A = List ℕ × List ℕ} (l, e) (k, f))
 ran-told r s l k e f p = (
   ap₂ (λ (v : Verdict) (n : ℕ). record { verdict = v; segments = n; summaries = r .summaries })
       (verdict-told (r .verdict) (s .verdict) (ap (λ (o : Outcome). o .verdict) p))
       (ap (λ (o : Outcome). o .segments) p)
       ∙ ap (λ (m : List Summary). record { verdict = s .verdict; segments = s .segments; summaries = m })
       (ap (λ (o : Outcome). o .records) p),
-  ap (λ (o : Outcome). lists (o .traceLeft) (o .finishesLeft)) p,
+  ap (λ (o : Outcome). (o .traceLeft, o .finishesLeft)) p,
 )

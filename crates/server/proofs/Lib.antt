@@ -1,5 +1,5 @@
 pub mod MoveLaws
-pub mod OneOutcome
 pub mod Potential
 pub mod PotentialLaws
+pub mod Promises
 pub mod RangeLaws

@@ -1,5 +1,5 @@
 -- The numbers that document 01 sets, each named once, for the definitions.
-use Prim.Native.Nat.{ℕ}
+use Prim.Native.Nat.{ℕ, _/_}
 
 -- "file 24 to 65,536 bytes"; "The header is 24 bytes"
 abbrev pub headerBytes : ℕ
@@ -48,4 +48,4 @@ abbrev pub traceNumbers : ℕ
 traceNumbers = 8_192
 
 abbrev pub mostShown : ℕ
-mostShown = 2_048
+mostShown = traceNumbers / 4

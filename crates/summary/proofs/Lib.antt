@@ -1,3 +1,3 @@
 pub mod BoundLaws
-pub mod OneOutcome
+pub mod Promises
 pub mod SummaryLaws

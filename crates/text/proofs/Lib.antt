@@ -1,4 +1,4 @@
 pub mod LengthLaws
 pub mod LineLaws
-pub mod OneOutcome
 pub mod PageLaws
+pub mod Promises

@@ -1,5 +1,5 @@
 pub mod HeldLaws
-pub mod OneOutcome
+pub mod Promises
 pub mod SegmentLaws
 pub mod StretchLaws
 pub mod TickLaws

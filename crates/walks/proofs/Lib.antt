@@ -1,3 +1,4 @@
+pub mod AsksNothingLaws
 pub mod Locals
 pub mod OneOutcomeLaws
 pub mod Steps

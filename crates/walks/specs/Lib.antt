@@ -1,1 +1,2 @@
+pub mod AsksNothing
 pub mod OneOutcome

@@ -1,2 +1,2 @@
 pub mod LayoutLaws
-pub mod OneOutcome
+pub mod Promises

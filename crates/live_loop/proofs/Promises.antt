@@ -1,4 +1,7 @@
--- Each promise of this crate allows one outcome: what is said on paper tells the answer, and the dispatcher that is left is given whole.
+-- Each promise of this crate allows one outcome, and asks no more than the ranges: what is said on paper tells the answer, and the dispatcher that is left is given whole.
+use contract.Monad.{factI}
+use Rattle.dispatcher.specs.Within.{Within}
+use Rattle.walks.specs.AsksNothing.{AsksOnlyWalked}
 use Rattle.walks.specs.OneOutcome.{Claim, Gives, OneOutcomeLentWalked}
 use Rattle.walks.proofs.Steps.{both-said}
 use Rattle.live_loop.specs.TwoForms.{ArrivalGives, TickGives}
@@ -30,6 +33,9 @@ arrival-one = (
   ),
 )
 
+pub arrival-asks : AsksOnlyWalked arrival.ended (λ κs a. Within (a .0 .now)) (λ M. arrival.clauses)
+arrival-asks M 𝓤 H A mem run κs a within = (tt, (λ P. factI 𝓤 _ P within))
+
 pub tick-one : OneOutcomeLentWalked tick.ended (λ M. tick.clauses) (λ κs e. e .0 .now)
 tick-one = (
   TickClaim,
@@ -39,3 +45,6 @@ tick-one = (
         tick-agrees (a .0 .now) x y (at-x .0 .now) (at-y .0 .now) p q),
   ),
 )
+
+pub tick-asks : AsksOnlyWalked tick.ended (λ κs a. Within (a .0 .now)) (λ M. tick.clauses)
+tick-asks M 𝓤 H A mem run κs a within = (tt, (λ P. factI 𝓤 _ P within))
