@@ -26,7 +26,7 @@ use Rattle.dispatcher.specs.Moves.{Turn, arrival, tick}
 use Rattle.dispatcher.specs.Pick.{serverAt}
 use Rattle.dispatcher.specs.Start.{atStart, startAt}
 use Rattle.dispatcher.specs.declared.Dispatcher.{Dispatcher}
-use Rattle.finish.specs.Finish.{Finish, costFor, finishedAt, isOpen, servedBy, workOf}
+use Rattle.finish.specs.Finish.{Finish, costFor, finishedAt, isOpen, servedBy, workOf, isJob}
 use Rattle.history.specs.Choice.{History}
 use Rattle.judgement.specs.Judgement.{arrivalJudged, arrivalsJudged, finishesJudged, workJudged}
 use Rattle.moments.specs.Moments.{atMoment, choiceOf, history, postponedBy, postpones, ready, taken, turn, waitingAt}
@@ -34,7 +34,7 @@ use Rattle.refusal.specs.Refusals.{Said, accepted, andThen, refused}
 use Rattle.server.specs.Server.{fresh, vacant}
 use Rattle.server.specs.declared.Server.{Server}
 use Rattle.sizes.specs.Sizes.{mostServers}
-use Rattle.summary.specs.Summary.{arrivedOf, blank, finishedOf, finishes, howMany, interruptedOf, isJob, responseIn, responseOf, responses, responsesOf, summaries, summaryBy, summaryOf, traceOf}
+use Rattle.summary.specs.Summary.{arrivedOf, blank, finishedOf, finishes, howMany, interruptedOf, responseIn, responseOf, responses, responsesOf, summaries, summaryBy, summaryOf, traceOf}
 use Rattle.summary.specs.declared.Summary.{Summary}
 use Rattle.trace.specs.Ticks.{endOf}
 use Rattle.trace.specs.Trace.{trace}

@@ -27,4 +27,4 @@ use Rattle.checked_by_hand.specs.ByHand.{AllHold, checkedByHand}
 
 pub all-hold : AllHold checkedByHand
 unfolding dayReport segmentLines jobLine serverLine decimal digitsUpTo each server.renews server.arrived server.served tableJudged first sum total longest every count places arrival ran tick mayRun picked atStart firstServed servedBy workOf isFor same ticksServed atMoment history postponedBy ready taken turn waitingAt numberAt arrivedOf finishedOf howMany interruptedOf responseIn responses responsesOf summaryOf begins begun lasting isUnder judgement.arrivalJudged judgement.arrivalsJudged judgement.workJudged judgement.judged arrivalAt bookingAt header work
-all-hold = (refl, (refl, (refl, (refl, (refl, (refl, (refl, (refl, (refl, (refl, (refl, (refl, (refl, (refl, (refl, (refl, (refl, (refl, (refl, (refl, (refl, (refl, (refl, (refl, (refl, (refl, (refl, (refl, tt))))))))))))))))))))))))))))
+all-hold = (refl, (refl, (refl, (refl, (refl, (refl, (refl, (refl, (refl, (refl, (refl, (refl, (refl, (refl, (refl, (refl, (refl, (refl, (refl, (refl, (refl, (refl, (refl, (refl, (refl, (refl, (refl, (refl, (refl, tt)))))))))))))))))))))))))))))

@@ -6,6 +6,7 @@ ghost use mathlib.Core.Path.{_≡_};
 ghost use Rattle.io.specs.Counts.{Counts};
 ghost use Rattle.report.specs.DayReport.{dayReport, mostBytes};
 ghost use Rattle.sizes.specs.Sizes.{mostFile};
+ghost use Rattle.day_report.specs.working.Printed.{Printed};
 use libc::STDERR_FILENO;
 use libc::STDIN_FILENO;
 use libc::STDOUT_FILENO;
@@ -22,6 +23,7 @@ fn main() {
 // Reads into the room, and writes the report of what was read.
 fn print_report(room: &mut [u8], text: &mut [u8])
     requires { ⌜ mostBytes ≤ length (now text) ⌝ }
+    ensures { λ _. ⌜ Printed (now (room .exit)) (now (text .entry)) (now (text .exit)) ⌝ }
 {
     let length = io::read_full(STDIN_FILENO, room);
     if length < room.len() && !is_ended() {

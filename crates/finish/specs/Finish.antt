@@ -4,7 +4,7 @@
 use Prim.Native.Nat.{ℕ, suc}
 use lib.Dec.{eqb, leb, ltb}
 use lib.ListN.{length, getD}
-use mathlib.Core.Bool.{cond}
+use mathlib.Core.Bool.{Bool, cond}
 use mathlib.Core.List.{List}
 use Rattle.clock.specs.Clock.{moment}
 use Rattle.clock.specs.declared.Moment.{Moment}
@@ -15,9 +15,13 @@ use Rattle.history.specs.Choice.{History, ticksServed}
 use Rattle.sizes.specs.Sizes.{openJob}
 use Rattle.workfile.specs.Work.{Work}
 
+-- whether arrival k is a job of server i
+abbrev pub isJob : Work → ℕ → ℕ → Bool
+isJob w i k = eqb (w .arrival k .server) i
+
 -- the cost of arrival k where it is a job of server i, and nothing where it is another's
 abbrev pub costFor : Work → ℕ → ℕ → ℕ
-costFor w i k = cond (eqb (w .arrival k .server) i) (w .arrival k .cost .ticks) 0
+costFor w i k = cond (isJob w i k) (w .arrival k .cost .ticks) 0
 
 -- "the sum of costs" of the jobs of server i among the first k arrivals
 unfoldable pub workOf : Work → ℕ → ℕ → ℕ

@@ -15,10 +15,10 @@ use Rattle.counting.proofs.CountLaws.{count-hit, count-miss, count-le}
 use Rattle.counting.proofs.PlacesLaws.{getD-places, places-same, places-replicate, set-places}
 use Rattle.counting.specs.Count.{count}
 use Rattle.counting.specs.Totals.{longest}
-use Rattle.finish.specs.Finish.{Finish, isOpen, finishedAt}
+use Rattle.finish.specs.Finish.{Finish, isOpen, finishedAt, isJob}
 use Rattle.sizes.specs.Sizes.{mostServers, openJob}
 use Rattle.summary.proofs.SummaryLaws.{response-more, responses-other, responses-open, responses-at, few-upto, total-upto}
-use Rattle.summary.specs.Summary.{blank, isJob, responseOf, responseIn, responsesOf}
+use Rattle.summary.specs.Summary.{blank, responseOf, responseIn, responsesOf}
 use Rattle.summary.specs.declared.Response.{Response}
 use Rattle.summary.specs.declared.Summary.{Summary}
 use Rattle.workfile.specs.Work.{Work}

@@ -1,13 +1,10 @@
 -- The 64 records as a work, a finish list and the counts that were kept beside it tell them (document 01, "One moment of the clock").
 use Prim.Native.Nat.{ℕ}
-use lib.Dec.{ltb}
 use lib.ListN.{getD}
-use mathlib.Core.Bool.{cond}
 use mathlib.Core.List.{List}
-use Rattle.counting.specs.Places.{places}
 use Rattle.finish.specs.Finish.{Finish, finishOf}
-use Rattle.sizes.specs.Sizes.{mostServers, openJob}
-use Rattle.summary.specs.Summary.{blank, summaryBy}
+use Rattle.sizes.specs.Sizes.{openJob}
+use Rattle.summary.specs.Summary.{perServer, summaryBy}
 use Rattle.summary.specs.declared.Summary.{Summary}
 use Rattle.workfile.specs.Work.{Work}
 
@@ -16,8 +13,7 @@ use Rattle.workfile.specs.Work.{Work}
 abbrev pub finishIn : List ℕ → ℕ → Finish
 finishIn list k = finishOf (getD list k openJob)
 
--- "one per server, blank from n on", with how often each server was postponed and interrupted
+-- the record of each server, with how often it was postponed and interrupted
 unfoldable pub recordsOf : Work → List ℕ → List ℕ → List ℕ → List Summary
 recordsOf w list postponed interrupted =
-    places mostServers (λ i. cond (ltb i (w .table .count))
-    (summaryBy w (finishIn list) (getD postponed i 0) (getD interrupted i 0) i) blank)
+    perServer w (λ i. summaryBy w (finishIn list) (getD postponed i 0) (getD interrupted i 0) i)

@@ -7,7 +7,7 @@ use native.Mathlib.Nat.{le-trans}
 use native.Mathlib.Omega.{arith}
 use Rattle.counting.proofs.CountLaws.{count-le}
 use Rattle.counting.specs.Totals.{total, longest}
-use Rattle.finish.specs.Finish.{Finish}
+use Rattle.finish.specs.Finish.{Finish, isJob}
 use Rattle.moments.proofs.PostponedLaws.{postponed-le}
 use Rattle.moments.specs.Moments.{history}
 use Rattle.trace.proofs.SegmentLaws.{begun-few}
@@ -17,7 +17,7 @@ use Rattle.workfile.specs.Work.{Work}
 use Rattle.summary.specs.declared.Response.{Response}
 use Rattle.summary.specs.declared.Response.the-variants.{Absent, Over}
 use Rattle.summary.specs.declared.Summary.{Summary}
-use Rattle.summary.specs.Summary.{isJob, responseOf, responseIn, responsesOf, responses, arrivedOf, howMany, interruptedOf, finishes, summaryOf}
+use Rattle.summary.specs.Summary.{responseOf, responseIn, responsesOf, responses, arrivedOf, howMany, interruptedOf, finishes, summaryOf}
 use Rattle.summary.proofs.SummaryLaws.{totalOf, finished-le, responses-total}
 
 -- no number of a list is more than their total

@@ -13,11 +13,11 @@ use Rattle.clock.specs.declared.Length.{Length}
 use Rattle.clock.specs.declared.Moment.{Moment}
 use Rattle.counting.proofs.TotalsLaws.{total-append, longest-append, total-le}
 use Rattle.counting.specs.Totals.{total, longest}
-use Rattle.finish.specs.Finish.{Finish, isOpen, finishedAt}
+use Rattle.finish.specs.Finish.{Finish, isOpen, finishedAt, isJob}
 use Rattle.workfile.specs.Work.{Work}
 use Rattle.summary.specs.declared.Response.{Response}
 use Rattle.summary.specs.declared.Response.the-variants.{Absent, Over}
-use Rattle.summary.specs.Summary.{isJob, responseOf, responseIn, responsesOf, finishedOf, responses}
+use Rattle.summary.specs.Summary.{responseOf, responseIn, responsesOf, finishedOf, responses}
 
 -- the total of a response, 0 where it is absent
 unfoldable pub totalOf : Response → ℕ

@@ -9,7 +9,7 @@ use Rattle.clock.specs.Clock.{ticks, until}
 use Rattle.counting.specs.Count.{count}
 use Rattle.counting.specs.Places.{places}
 use Rattle.counting.specs.Totals.{total, longest}
-use Rattle.finish.specs.Finish.{Finish, isOpen, finishedAt, finish}
+use Rattle.finish.specs.Finish.{Finish, isOpen, finishedAt, finish, isJob}
 use Rattle.moments.specs.Moments.{history, postponedBy, waitingAt}
 use Rattle.sizes.specs.Sizes.{mostServers}
 use Rattle.trace.specs.Ticks.{endOf}
@@ -40,10 +40,6 @@ responseOf w k (finishedAt t) = until (w .arrival k .moment) t .ticks ∷ []
 unfoldable pub responseIn : List ℕ → Response
 responseIn [] = Absent
 responseIn (r ∷ more) = Over (ticks (total (r ∷ more))) (ticks (longest (r ∷ more)))
-
--- whether arrival k is a job of server i
-abbrev pub isJob : Work → ℕ → ℕ → Bool
-isJob w i k = eqb (w .arrival k .server) i
 
 unfoldable pub arrivedOf : Work → ℕ → ℕ
 arrivedOf w i = count (w .arrivals) (isJob w i)
@@ -85,6 +81,9 @@ summaryBy w f p q i =
 unfoldable pub summaryOf : Work → ℕ → Summary
 summaryOf w i = summaryBy w (finishes w) (postponedBy w i (w .horizon .tick)) (interruptedOf w i) i
 
--- all 64
+-- "64 records handed back whole, one per server, blank from n on"
+abbrev pub perServer : Work → (ℕ → Summary) → List Summary
+perServer w f = places mostServers (λ i. cond (ltb i (w .table .count)) (f i) blank)
+
 unfoldable pub summaries : Work → List Summary
-summaries w = places mostServers (λ i. cond (ltb i (w .table .count)) (summaryOf w i) blank)
+summaries w = perServer w (summaryOf w)

@@ -8,10 +8,10 @@ use Rattle.clock.specs.Clock.{lastTick, until}
 use Rattle.clock.specs.declared.Moment.{Moment}
 use Rattle.counting.specs.Count.{count}
 use Rattle.counting.specs.Places.{places}
-use Rattle.finish.specs.Finish.{Finish, isOpen, finishedAt}
+use Rattle.finish.specs.Finish.{Finish, isOpen, finishedAt, isJob}
 use Rattle.sizes.specs.Sizes.{mostServers}
 use Rattle.summary.proofs.SummaryLaws.{totalOf, withResponse}
-use Rattle.summary.specs.Summary.{blank, isJob, responseIn, responsesOf}
+use Rattle.summary.specs.Summary.{blank, responseIn, responsesOf}
 use Rattle.summary.specs.declared.Response.{Response}
 use Rattle.summary.specs.declared.Summary.{Summary}
 use Rattle.workfile.specs.Work.{Work}
