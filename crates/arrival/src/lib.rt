@@ -1,4 +1,4 @@
-// An arrival brings work to one server at one moment: whether what it names can be taken.
+// An arrival, which brings work to one server at one moment, and whether what it names can be taken.
 ghost use mathlib.Core.Path.{_≡_};
 ghost use Rattle.arrival.specs.Arrival.{faultyArrival};
 use clock::Length;

@@ -1,4 +1,5 @@
-// A booking, Q ticks in every T, against the frame: whether it is faulty, and its share where it is not.
+// A booking, Q ticks in every T, against the frame: whether it is faulty, and its share where it is not; and what it is for a table of
+// them to be admitted.
 ghost use mathlib.Core.Path.{_≡_};
 ghost use Rattle.clock.specs.Clock.{ticks};
 ghost use Rattle.booking.specs.Share.{booked, faultyBooking, shareOf};

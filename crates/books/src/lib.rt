@@ -1,4 +1,5 @@
-// How a run from event to event keeps its books. These are not the rules' definitions: each of them is joined to those by a law.
+// How a run from event to event keeps its books, and the laws that join these to the rules' definitions. They stand in `proofs/`, and no
+// public promise cites them.
 use clock::Moment;
 
 // The stretch that a run is in: since when, of which server under which deadline, and how many segments ended before it. Where

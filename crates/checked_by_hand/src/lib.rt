@@ -1,2 +1,2 @@
-// The worked examples of document 01, "Checked by hand", that are marked to be proved. The list and its one statement stand in
-// `specs/ByHand.antt`, the proof in `proofs/`; there is no code here.
+// The worked examples of the rules, proved of the definitions as one list. The list and its one statement stand in `specs/ByHand.antt`,
+// the proof in `proofs/`; there is no code here.

@@ -1,3 +1,2 @@
-// Definitions over the numbers below a bound, and their laws: the first that passes a test, whether all pass it, the sum of a
-// function, the list of its values; the total and the longest of a list; and laws of tests that are joined. They stand in `specs/`;
-// there is no code here.
+// Counting below a bound: the first number that passes a test, how many do and whether all do, the sum of a function and the list of its
+// values; and the total and the longest of a list. The definitions stand in `specs/`, their laws in `proofs/`; there is no code here.

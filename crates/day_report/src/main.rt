@@ -1,5 +1,5 @@
-// The day report: a work file from standard input, and its report to standard output. A program's reading and writing are no part of
-// a promise; what stands between them is `report::day_report`.
+// The day report as a program: a work file from standard input, and its report to standard output. A program's reading and writing are no
+// part of a promise; what stands between them is `report::day_report`.
 ghost use Prim.Native.Nat.{_+_, _≤_};
 ghost use lib.ListN.{length, take};
 ghost use mathlib.Core.Path.{_≡_};

@@ -1,4 +1,4 @@
-// The judgement of a work file by the refusals 1 to 9.
+// The judgement of a work file by the refusals 1 to 9, in the order of the rules.
 ghost use mathlib.Core.Path.{_≡_};
 ghost use Rattle.booking.specs.Admission.{admission};
 ghost use Rattle.refusal.specs.Refusals.{onPaper};

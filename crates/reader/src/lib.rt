@@ -1,4 +1,4 @@
-// A reader of a work file: the lent bytes and a place in them. It copies no block: a record is taken where it lies.
+// A reader of a work file: the lent bytes and a place in them, where it takes records. It copies no block: a record is taken where it lies.
 //
 // The functions over the struct are few and thin: each but `new` takes it apart and calls one on the bytes and the place. The two with
 // plain parameters, below them, are for everyone else.

@@ -1,4 +1,4 @@
-// The refusals of document 01 by number and place, and the answer that is either "accepted" or one of them.
+// The refusals of the rules by number and place, and the answer that is either "accepted" or one of them.
 ghost use mathlib.Core.Path.{_≡_};
 ghost use Rattle.refusal.specs.Refusals.{numberOf, placeOf};
 

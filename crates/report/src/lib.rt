@@ -1,4 +1,4 @@
-// The day report of a work file, as text in a lent buffer.
+// The day report of a work file, as text in a lent buffer, and that no report is longer than its text.
 mod lines;
 
 ghost use Prim.Native.Nat.{_+_, _*_, _≤_, min};

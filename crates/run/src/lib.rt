@@ -1,5 +1,5 @@
-// The run of a work file: bytes in, and out come the refusal, or the count of all segments and the first of them, every finish and 64
-// summaries.
+// The run of a work file: bytes in, and out come the refusal, or the count of all segments and the first of them, every finish and the 64
+// records.
 // The rules know a run tick by tick. This one goes from event to event, a server that runs going on until its job is done, another
 // wins, or something arrives, and is proved to give what the rules give.
 mod budgets;

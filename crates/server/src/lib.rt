@@ -1,5 +1,5 @@
-// A server: its booking, and what it holds from one moment to the next. How a moment changes it is defined in `specs/`;
-// the moves that do so are those of `steps`, and the dispatcher's.
+// A server: its booking, what it holds from one moment to the next, and how a moment changes that. The change is defined in `specs/`; the
+// code that makes it is that of `steps` and of `dispatcher`.
 ghost use mathlib.Core.Path.{_≡_};
 ghost use Rattle.server.specs.Server.{fresh, vacant};
 use booking::Booking;

@@ -1,4 +1,4 @@
-// The numbers that document 01 sets, each named once. `specs/Sizes.antt` has the same for the definitions.
+// The numbers that the rules set, each named once. `specs/Sizes.antt` has the same for the definitions.
 
 // The bytes of a work file's header, which no work file is shorter than.
 pub const HEADER_BYTES: usize = 24;

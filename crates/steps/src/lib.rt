@@ -1,6 +1,6 @@
-// Steps 1 and 3 of a moment, at one server: it takes the work of an arrival, and it is served for a tick. Both are proved for all numbers:
-// where 64 bits might not hold what a step works out, where the work would pass 4,294,967,295, and where there is no work or no budget to
-// serve, the server stays as it is. A dispatcher takes no such step.
+// The code of steps 1 and 3 of a moment, at one server: it takes the work of an arrival, and it is served for a tick. Both are proved for
+// all numbers: where 64 bits might not hold what a step works out, where the work would pass 4,294,967,295, and where there is no work or
+// no budget to serve, the server stays as it is. A dispatcher takes no such step.
 mod arriving;
 mod fitting;
 

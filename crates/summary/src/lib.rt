@@ -1,4 +1,4 @@
-// The summary of a run: a record for each server, and the response, which is absent where nothing has finished.
+// The summary of a run: 64 records, one for each server, each with the response, which is absent where nothing has finished.
 ghost use mathlib.Core.Path.{_≡_};
 ghost use lib.ListN.{replicate, set};
 ghost use Rattle.sizes.specs.Sizes.{mostServers};

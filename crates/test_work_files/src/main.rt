@@ -1,4 +1,4 @@
-// Runs the work files of a script and writes what each run gives. What it writes is held to the file `stdout`.
+// Runs the work files of a script beside lists of any length, and writes what each run gives. What it writes is held to the file `stdout`.
 mod case;
 mod say;
 mod script;

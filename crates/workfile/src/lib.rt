@@ -1,4 +1,5 @@
-// A work file: its header and its records. Nothing is copied from the lent bytes but the numbers that are read.
+// A work file: where its header and its records lie, and the work that they hold. Nothing is copied from the lent bytes but the numbers
+// that are read.
 ghost use mathlib.Core.Path.{_≡_};
 ghost use Rattle.workfile.specs.Layout.{header, bookingAt, arrivalAt};
 use arrival::Arrival;
