@@ -382,7 +382,7 @@ function root_public(crate, what,    f, n, k, ids, some) {
     if (!(crate in listed_crate)) problem("crates.txt: there is no crate " crate)
     some = 0
     for (f = first_of[crate]; f <= last_of[crate]; f++) {
-        if (what == "law" ? file_at[f] !~ /\/proofs\/(OneOutcome|Promises)[.]antt$/ : !is_public(file_at[f])) continue
+        if (what == "law" ? file_at[f] !~ /\/proofs\/Promises[.]antt$/ : !is_public(file_at[f])) continue
         load(file_at[f])
         n = split(things[file_at[f]], ids, " ")
         for (k = 1; k <= n; k++) if (kind[ids[k]] == what && public[ids[k]]) { root(ids[k]); some++ }

@@ -2,7 +2,7 @@
 use contract.Monad.{factI}
 use Rattle.dispatcher.specs.Within.{Within}
 use Rattle.walks.specs.AsksNothing.{AsksOnlyWalked}
-use Rattle.walks.specs.OneOutcome.{Claim, Gives, OneOutcomeLentWalked}
+use Rattle.walks.specs.OneOutcome.{Gives, OneOutcomeLentWalked}
 use Rattle.walks.proofs.Steps.{both-said}
 use Rattle.live_loop.specs.TwoForms.{ArrivalGives, TickGives}
 use Rattle.live_loop.proofs.TwoFormsLaws.{arrival-agrees, tick-agrees}
@@ -10,22 +10,17 @@ use Rattle.live_loop.proofs.arrival as arrival
 use Rattle.live_loop.proofs.tick as tick
 
 -- what each contract gives, of the dispatcher that is lent, the answer and the dispatcher that is left
-abbrev pub ArrivalClaim : Claim arrival.ended
-ArrivalClaim κs a r e = ArrivalGives (a .0 .now) (a .1 .0) (a .1 .1 .0) r (e .0 .now)
-
-pub arrival-gives : Gives arrival.ended (λ M. arrival.clauses) ArrivalClaim
+pub arrival-gives : Gives arrival.ended (λ M. arrival.clauses)
+    (λ κs a r e. ArrivalGives (a .0 .now) (a .1 .0) (a .1 .1 .0) r (e .0 .now))
 arrival-gives M 𝓤 H A mem run κs a g r e = both-said 𝓤 _ _
 
-abbrev pub TickClaim : Claim tick.ended
-TickClaim κs a r e = TickGives (a .0 .now) r (e .0 .now)
-
-pub tick-gives : Gives tick.ended (λ M. tick.clauses) TickClaim
+pub tick-gives : Gives tick.ended (λ M. tick.clauses) (λ κs a r e. TickGives (a .0 .now) r (e .0 .now))
 tick-gives M 𝓤 H A mem run κs a g r e = both-said 𝓤 _ _
 
 -- and that it allows one outcome: one outcome agrees with another as one form of the move does with the other
 pub arrival-one : OneOutcomeLentWalked arrival.ended (λ M. arrival.clauses) (λ κs e. e .0 .now)
 arrival-one = (
-  ArrivalClaim,
+  (λ κs a r e. ArrivalGives (a .0 .now) (a .1 .0) (a .1 .1 .0) r (e .0 .now)),
   (
     arrival-gives,
     (λ κs a x y at-x at-y p q.
@@ -38,7 +33,7 @@ arrival-asks M 𝓤 H A mem run κs a within = (tt, (λ P. factI 𝓤 _ P within
 
 pub tick-one : OneOutcomeLentWalked tick.ended (λ M. tick.clauses) (λ κs e. e .0 .now)
 tick-one = (
-  TickClaim,
+  (λ κs a r e. TickGives (a .0 .now) r (e .0 .now)),
   (
     tick-gives,
     (λ κs a x y at-x at-y p q.
