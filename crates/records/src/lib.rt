@@ -57,8 +57,7 @@ fn of_arrivals(
         let i = a.server;
         if i < servers {
             let s = with_job(records[i], a.moment, finish_in(finishes, k));
-            let changed = summary::with_record(records, i, s);
-            records = changed;
+            records = summary::with_record(records, i, s);
         }
         k += 1;
     }
@@ -144,8 +143,7 @@ fn fill(
     let mut i = 0;
     while i < servers {
         let s = with_counts(all[i], count_at(postponed, i), count_at(interrupted, i));
-        let more = summary::with_record(all, i, s);
-        all = more;
+        all = summary::with_record(all, i, s);
         i += 1;
     }
     all

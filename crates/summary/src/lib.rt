@@ -34,15 +34,14 @@ pub fn blank_records() -> [Summary; sizes::MOST_SERVERS]
 
 // The records with another one at place i; there is none to change where i is no place.
 pub fn with_record(
-    records: [Summary; sizes::MOST_SERVERS],
+    mut records: [Summary; sizes::MOST_SERVERS],
     i: usize,
     s: Summary,
 ) -> [Summary; sizes::MOST_SERVERS]
     ensures { λ r. ⌜ r ≡ set records i s ⌝ }
 {
-    let mut changed = records;
     if i < sizes::MOST_SERVERS {
-        changed[i] = s;
+        records[i] = s;
     }
-    changed
+    records
 }

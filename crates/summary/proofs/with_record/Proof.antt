@@ -6,11 +6,11 @@ use native.Mathlib.Omega.{arith}
 use Rattle.summary.proofs.with_record.Statement.{statement}
 use Rattle.summary.proofs.with_record.Tie as tie
 
-mul-changed : tie.Need-mul-changed
-mul-changed c = search needs
+mul-records : tie.Need-mul-records
+mul-records c = search needs
 
-array-set-from-changed : tie.Need-array-set-from-changed
-array-set-from-changed c = search needs
+array-set-from-records : tie.Need-array-set-from-records
+array-set-from-records c = search needs
 
 returns : tie.Need-returns
 returns c = search needs
@@ -19,4 +19,4 @@ returns-2 : tie.Need-returns-2
 returns-2 c = sym (set-out _ _ _ (omega arith))
 
 pub with-record-spec : {M : Type 1} → statement M
-with-record-spec = tie.close (tie.spec mul-changed array-set-from-changed returns returns-2)
+with-record-spec = tie.close (tie.spec mul-records array-set-from-records returns returns-2)
