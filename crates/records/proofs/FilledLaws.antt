@@ -67,7 +67,7 @@ records-all w list postponed interrupted = places-same mostServers _ _ (λ i b. 
 
     go : (i : ℕ) → i < mostServers → Dec (i < w .table .count)
         → cond (ltb i (min (w .table .count) mostServers)) (withCounts (told i) (getD postponed i 0) (getD interrupted i 0)) (told i)
-        ≡ cond (ltb i (w .table .count)) (summaryBy w (finishIn list) (getD postponed i 0) (getD interrupted i 0) i) blank
+        ≡ cond (ltb i (w .table .count)) (summaryBy w (finishIn w list) (getD postponed i 0) (getD interrupted i 0) i) blank
     go i b (yes l) =
         rw (lt-ltb i (w .table .count) l, lt-ltb i (min (w .table .count) mostServers) (omega arith))
         (ap (λ (s : Summary). withCounts s (getD postponed i 0) (getD interrupted i 0)) (getD-places mostServers _ i blank b ∙ record-in w list (w .arrivals) i l))

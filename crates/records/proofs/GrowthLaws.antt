@@ -1,9 +1,9 @@
 -- How the records grow, arrival by arrival, and that 64 bits hold them.
 use Prim.Native.Nat.{ℕ, zero, suc, _+_, _≤_, _<_, min}
 use borrow.Author.Tests.{eq-eqb, ne-eqb, lt-ltb, le-ltb}
-use lib.Dec.{eqb, ltb}
+use lib.Dec.{eqb, ltb, leb}
 use lib.ListN.{length, getD, replicate, set, length-append}
-use mathlib.Core.Bool.{Bool, true, false, cond}
+use mathlib.Core.Bool.{Bool, true, false, cond, _||_, true≢false, false≢true}
 use mathlib.Core.List.{List, [], _∷_}
 use mathlib.Core.Path.{_≡_, refl, sym, _∙_, ap, ap₂}
 use native.Mathlib.Decide.{ℕ-discrete}
@@ -11,6 +11,7 @@ use native.Mathlib.Nat.{le-of-suc-le-suc, not-suc-le-zero}
 use native.Mathlib.Omega.{arith}
 use Rattle.arrival.specs.declared.Arrival.{Arrival}
 use Rattle.clock.specs.Clock.{moment, until}
+use Rattle.clock.specs.declared.Moment.{Moment}
 use Rattle.counting.proofs.CountLaws.{count-hit, count-miss, count-le}
 use Rattle.counting.proofs.PlacesLaws.{getD-places, places-same, places-replicate, set-places}
 use Rattle.counting.specs.Count.{count}
@@ -23,7 +24,7 @@ use Rattle.summary.specs.declared.Response.{Response}
 use Rattle.summary.specs.declared.Summary.{Summary}
 use Rattle.workfile.specs.Work.{Work}
 use Rattle.records.specs.Records.{finishIn}
-use Rattle.records.specs.working.Job.{withJob, Roomy, counted, overJobs, recordUpTo, recordsUpTo}
+use Rattle.records.specs.working.Job.{withJob, Roomy, counted, overJobs, recordUpTo, recordsUpTo, finishBy, isOpenAt}
 
 -- a place of a list is read as it is, whatever stands for what is behind the end
 pub place-read : (l : List ℕ) (k d e : ℕ) → k < length l → getD l k d ≡ getD l k e
@@ -37,10 +38,27 @@ still-narrow [] h j = omega arith
 still-narrow (x ∷ l) h zero = h 0
 still-narrow (x ∷ l) h (suc j) = still-narrow l (λ i. h (suc i)) j
 
+-- A number that is no finish of a job leaves it open, and any other tells its finish.
+pub finish-by-open : (came : Moment) (n : ℕ) → isOpenAt came n ≡ true → finishBy came n ≡ isOpen
+finish-by-open came n e = go (leb n (came .tick)) (eqb n openJob) e
+  where
+    go : (a b : Bool) → (a || b) ≡ true → cond a isOpen (cond b isOpen (finishedAt (moment n))) ≡ isOpen
+    go true b q = refl
+    go false true q = refl
+    go false false q = absurd (false≢true q)
+
+pub finish-by-at : (came : Moment) (n : ℕ) → isOpenAt came n ≡ false → finishBy came n ≡ finishedAt (moment n)
+finish-by-at came n e = go (leb n (came .tick)) (eqb n openJob) e
+  where
+    go : (a b : Bool) → (a || b) ≡ false → cond a isOpen (cond b isOpen (finishedAt (moment n))) ≡ finishedAt (moment n)
+    go true b q = absurd (true≢false q)
+    go false true q = absurd (true≢false q)
+    go false false q = refl
+
 -- Of a work and a list of finishes.
 module _ (w : Work) (list : List ℕ) where
   -- a server of the table, and one behind it
-  pub record-in : (k i : ℕ) → i < w .table .count → recordUpTo w list k i ≡ overJobs (count k (isJob w i)) (responsesOf w (finishIn list) i k)
+  pub record-in : (k i : ℕ) → i < w .table .count → recordUpTo w list k i ≡ overJobs (count k (isJob w i)) (responsesOf w (finishIn w list) i k)
   unfolding recordUpTo
   record-in k i l = rw (lt-ltb i (w .table .count) l)
 
@@ -65,7 +83,7 @@ module _ (w : Work) (list : List ℕ) where
     other-stays i other =
         ap (λ (s : Summary). cond (ltb i (w .table .count)) s blank)
         (ap₂ overJobs (sym (count-miss k (isJob w i) (ne-eqb (w .arrival k .server) i other)))
-        (sym (responses-other w (finishIn list) i k other)))
+        (sym (responses-other w (finishIn w list) i k other)))
 
     -- nothing of one behind the table,
     behind-stays : (i : ℕ) → w .table .count ≤ i → recordUpTo w list k i ≡ recordUpTo w list (suc k) i
@@ -73,28 +91,28 @@ module _ (w : Work) (list : List ℕ) where
 
     -- and of its own that it has arrived, and finished where the list says so
     own-grows : w .arrival k .server < w .table .count
-        → withJob (recordUpTo w list k (w .arrival k .server)) (w .arrival k .moment) (finishIn list k)
+        → withJob (recordUpTo w list k (w .arrival k .server)) (w .arrival k .moment) (finishIn w list k)
         ≡ recordUpTo w list (suc k) (w .arrival k .server)
     unfolding withJob
-    own-grows l = rw (record-in k i l, record-in (suc k) i l) (go (finishIn list k) refl)
+    own-grows l = rw (record-in k i l, record-in (suc k) i l) (go (finishIn w list k) refl)
       where
         i : ℕ
         i = w .arrival k .server
 
         before : List ℕ
-        before = responsesOf w (finishIn list) i k
+        before = responsesOf w (finishIn w list) i k
 
         hit : count k (isJob w i) + 1 ≡ count (suc k) (isJob w i)
         hit = sym (count-hit k (isJob w i) (eq-eqb i i refl))
 
-        go : (x : Finish) → finishIn list k ≡ x
+        go : (x : Finish) → finishIn w list k ≡ x
             → withJob (overJobs (count k (isJob w i)) before) (w .arrival k .moment) x
-            ≡ overJobs (count (suc k) (isJob w i)) (responsesOf w (finishIn list) i (suc k))
-        go isOpen e = ap₂ overJobs hit (sym (responses-open w (finishIn list) i k refl e))
+            ≡ overJobs (count (suc k) (isJob w i)) (responsesOf w (finishIn w list) i (suc k))
+        go isOpen e = ap₂ overJobs hit (sym (responses-open w (finishIn w list) i k refl e))
         go (finishedAt t) e =
             let lasted = until (w .arrival k .moment) t .ticks in
             ap₂ (λ (n : ℕ) (r : Response). counted (count k (isJob w i) + 1) n 0 0 r) (sym (length-append before (lasted ∷ []))) (sym (response-more before lasted))
-            ∙ ap₂ overJobs hit (sym (responses-at w (finishIn list) i k refl t e))
+            ∙ ap₂ overJobs hit (sym (responses-at w (finishIn w list) i k refl t e))
 
     -- Of the records before it, and the arrival as it was read: `servers` of the 64 places hold a server.
     module _ {records : List Summary} (before : records ≡ recordsUpTo w list k) {a : Arrival} (read : a ≡ w .arrival k) {servers : ℕ}
@@ -109,14 +127,15 @@ module _ (w : Work) (list : List ℕ) where
           go i b (no other) = other-stays i other
 
       pub records-more : a .server < servers
-          → set records (a .server) (withJob (getD records (a .server) blank) (a .moment) (finishIn list k)) ≡ recordsUpTo w list (suc k)
+          → set records (a .server) (withJob (getD records (a .server) blank) (a .moment) (finishBy (a .moment) (getD list k openJob)))
+          ≡ recordsUpTo w list (suc k)
       unfolding recordsUpTo
       records-more place =
           let i = w .arrival k .server in
           let known : i < servers = rw read at place in
           rw (before, read)
           (ap (set (recordsUpTo w list k) i)
-          (ap (λ (s : Summary). withJob s (w .arrival k .moment) (finishIn list k))
+          (ap (λ (s : Summary). withJob s (w .arrival k .moment) (finishIn w list k))
           (getD-places mostServers (recordUpTo w list k) i blank (omega arith))
           ∙ own-grows (omega arith))
           ∙ set-places mostServers (recordUpTo w list k) (recordUpTo w list (suc k)) i (omega arith) (λ j q. other-stays j (λ e. q (sym e))))
@@ -124,14 +143,15 @@ module _ (w : Work) (list : List ℕ) where
   -- Where the list's numbers have 32 bits, there is room for one job more behind fewer than 4,294,967,295.
   module _ (narrow : (j : ℕ) → getD list j 0 ≤ openJob) where
     -- no response is longer than the moment of the finish
-    response-narrow : (k : ℕ) → longest (responseOf w k (finishIn list k)) ≤ openJob
+    response-narrow : (k : ℕ) → longest (responseOf w k (finishIn w list k)) ≤ openJob
     unfolding longest
-    response-narrow k = go (eqb (getD list k openJob) openJob) (still-narrow list narrow k)
+    response-narrow k = go (leb (getD list k openJob) (w .arrival k .moment .tick)) (eqb (getD list k openJob) openJob) (still-narrow list narrow k)
       where
-        go : (b : Bool) → getD list k openJob ≤ openJob
-            → longest (responseOf w k (cond b isOpen (finishedAt (moment (getD list k openJob))))) ≤ openJob
-        go true h = omega arith
-        go false h = omega arith
+        go : (a b : Bool) → getD list k openJob ≤ openJob
+            → longest (responseOf w k (cond a isOpen (cond b isOpen (finishedAt (moment (getD list k openJob)))))) ≤ openJob
+        go true b h = omega arith
+        go false true h = omega arith
+        go false false h = omega arith
 
     pub records-roomy : (k i : ℕ) → k < openJob → i < min (w .table .count) mostServers
         → Roomy (getD (recordsUpTo w list k) i blank) (getD list k openJob)
@@ -140,6 +160,6 @@ module _ (w : Work) (list : List ℕ) where
         rw (getD-places mostServers (recordUpTo w list k) i blank (omega arith), record-in k i (omega arith))
         (record {
           arrived = omega (arith, count-le k (isJob w i));
-          finished = omega (arith, few-upto w (finishIn list) i k);
-          total = omega (arith, still-narrow list narrow k, total-upto w (finishIn list) i openJob k (λ j b. response-narrow j));
+          finished = omega (arith, few-upto w (finishIn w list) i k);
+          total = omega (arith, still-narrow list narrow k, total-upto w (finishIn w list) i openJob k (λ j b. response-narrow j));
         })

@@ -5,12 +5,11 @@ ghost use mathlib.Core.Path.{_≡_};
 ghost use Prim.Native.Nat.{_+_, _≤_, _<_, max, min};
 ghost use lib.ListN.{getD};
 ghost use Rattle.clock.specs.Clock.{lastTick};
-ghost use Rattle.finish.specs.Finish.{finishOf};
 ghost use Rattle.sizes.specs.Sizes.{mostServers, openJob};
 ghost use Rattle.summary.proofs.SummaryLaws.{totalOf, withResponse};
 ghost use Rattle.workfile.specs.Layout.{header};
 ghost use Rattle.workfile.specs.Work.{work};
-ghost use Rattle.records.specs.working.Job.{filled, withCounts, Roomy, recordsUpTo, withJob};
+ghost use Rattle.records.specs.working.Job.{filled, finishBy, isOpenAt, withCounts, Roomy, recordsUpTo, withJob};
 ghost use Rattle.records.specs.Records.{recordsOf};
 use clock::Length;
 use clock::Moment;
@@ -74,14 +73,15 @@ fn finish_in(finishes: &[u32], k: usize) -> u32
     sizes::OPEN_JOB
 }
 
-// A record with one job more, for which the list has `finish`: an open one has arrived, and any other has finished too.
+// A record with one job more, which came then and for which the list has `finish`: an open one has arrived, any other has finished too.
 fn with_job(s: Summary, came: Moment, finish: u32) -> Summary
     requires { ⌜ Roomy s finish ⌝ }
-    ensures { λ r. ⌜ r ≡ withJob s came (finishOf finish) ⌝ }
+    ensures { λ r. ⌜ r ≡ withJob s came (finishBy came finish) ⌝ }
 {
     let arrived = s.arrived + 1;
     let before = s.response;
-    if finish == sizes::OPEN_JOB {
+    let end = finish as u64;
+    if is_open(came, end) {
         return Summary {
             arrived,
             finished: s.finished,
@@ -91,7 +91,6 @@ fn with_job(s: Summary, came: Moment, finish: u32) -> Summary
         };
     }
     let finished = s.finished + 1;
-    let end = finish as u64;
     Summary {
         arrived,
         finished,
@@ -99,6 +98,16 @@ fn with_job(s: Summary, came: Moment, finish: u32) -> Summary
         interrupted: s.interrupted,
         response: with_response(before, clock::until(came, Moment { tick: end })),
     }
+}
+
+// Whether what the list has is no finish of a job that came then: an open job's number, or one that is not after it, as 0.
+fn is_open(came: Moment, finish: u64) -> bool
+    ensures { λ r. ⌜ r ≡ isOpenAt came finish ⌝ }
+{
+    if finish <= came.tick {
+        return true;
+    }
+    finish == sizes::OPEN_JOB as u64
 }
 
 // The response over one job more.

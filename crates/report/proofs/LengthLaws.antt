@@ -62,7 +62,7 @@ module _ {w : Work} {places : ℕ} (fit : Fit w places) where
   trace-short : EverySegment Short (traceOf w)
   trace-short =
       begun-every (history w) (w .horizon .tick) Short
-      (λ b k some ends all. segments-short (history w b) (history-in-range fit b) b k (omega (arith, fit .horizon)) (omega (arith, fit .horizon)))
+      (λ b k some ends all before behind. segments-short (history w b) (history-in-range fit b) b k (omega (arith, fit .horizon)) (omega (arith, fit .horizon)))
       (w .horizon .tick)
       (omega arith)
 

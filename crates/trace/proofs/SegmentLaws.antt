@@ -4,7 +4,7 @@ use borrow.Author.Tests.{not-false}
 use lib.ListN.{length, length-append, take, getD}
 use mathlib.Core.Bool.{Bool, true, false, cond}
 use mathlib.Core.List.{List, [], _∷_, _++_}
-use mathlib.Core.Path.{_≡_, sym}
+use mathlib.Core.Path.{_≡_, refl, sym, _∙_, ap}
 use native.Mathlib.Decide.{ℕ-discrete}
 use native.Mathlib.Nat.{add-zero, le-of-suc-le-suc, not-suc-le-zero}
 use native.Mathlib.Omega.{arith}
@@ -80,23 +80,42 @@ module _ (h : History) (N : ℕ) where
     unfolding lasting
     lasting-all q l = sym (same-equal (h b) (h (b + q)) (not-false _ (first-before (N - b) (differs h b) q l)))
 
-  -- what the segment of any stretch before N has, every segment has
+    -- and where it ends before the horizon the next tick is given otherwise
+    lasting-behind : b + lasting h N b < N → h (b + lasting h N b) ≡ h b → ⊥
+    unfolding lasting
+    lasting-behind early e =
+        not-both (first-passes (N - b) (differs h b) (omega arith)) (rw (e, same-refl (h b)))
+
+  -- so is the tick before a stretch
+  begins-before : (b : ℕ) → begins h b ≡ true → (t : ℕ) → suc t ≡ b → h t ≡ h b → ⊥
+  unfolding begins
+  begins-before zero e t q same = let no : ⊥ = omega arith in absurd no
+  begins-before (suc b) e t q same =
+      let here : t ≡ b = omega arith in
+      not-both e (rw (sym (ap h here) ∙ same, same-refl (h (suc b))))
+
+  -- what the segment of any longest stretch before N has, every segment has
   pub begun-every : (P : Segment → Type 0)
-      → ((b k : ℕ) → 1 ≤ k → b + k ≤ N → Alike h b k → EverySegment P (segmentsOf (h b) b k))
+      → ((b k : ℕ) → 1 ≤ k → b + k ≤ N → Alike h b k → ((t : ℕ) → suc t ≡ b → h t ≡ h b → ⊥) → (b + k < N → h (b + k) ≡ h b → ⊥)
+      → EverySegment P (segmentsOf (h b) b k))
       → (t : ℕ) → t ≤ N → EverySegment P (begun h N t)
   unfolding begun
   begun-every P has zero le = tt
   begun-every P has (suc t) le =
-      every-append P (begun h N t) _ (begun-every P has t (omega arith)) (go (begins h t))
+      every-append P (begun h N t) _ (begun-every P has t (omega arith)) (go (begins h t) refl)
     where
-      go : (b : Bool) → EverySegment P (cond b (segmentsOf (h t) t (lasting h N t)) [])
-      go true = has t (lasting h N t) (lasting-some t le) (lasting-ends t le) (lasting-all t le)
-      go false = tt
+      go : (b : Bool) → begins h t ≡ b → EverySegment P (cond b (segmentsOf (h t) t (lasting h N t)) [])
+      go true e =
+          has t (lasting h N t) (lasting-some t le) (lasting-ends t le) (lasting-all t le) (begins-before t e) (lasting-behind t le)
+      go false e = tt
 
 -- every one of them has it
 pub trace-stretches : (h : History) (N : ℕ) → EverySegment (Stretch h N) (trace h N)
-trace-stretches h N = begun-every h N (Stretch h N) (λ b k some ends all. go b k some ends (h b) all) N (omega arith)
+trace-stretches h N =
+    begun-every h N (Stretch h N) (λ b k some ends all before behind. go b k some ends (h b) all before behind) N (omega arith)
   where
-    go : (b k : ℕ) → 1 ≤ k → b + k ≤ N → (c : Choice) → ((q : ℕ) → q < k → h (b + q) ≡ c) → EverySegment (Stretch h N) (segmentsOf c b k)
-    go b k some ends nobody all = tt
-    go b k some ends (given i d) all = (record { some = some; ends = ends; all = all }, tt)
+    go : (b k : ℕ) → 1 ≤ k → b + k ≤ N → (c : Choice) → ((q : ℕ) → q < k → h (b + q) ≡ c) → ((t : ℕ) → suc t ≡ b → h t ≡ c → ⊥)
+        → (b + k < N → h (b + k) ≡ c → ⊥) → EverySegment (Stretch h N) (segmentsOf c b k)
+    go b k some ends nobody all before behind = tt
+    go b k some ends (given i d) all before behind =
+        (record { some = some; ends = ends; all = all; before = before; behind = behind }, tt)

@@ -1,15 +1,15 @@
 -- How the 64 records grow by one job, and take their counts.
 use Prim.Native.Nat.{ℕ, _<_, _+_, _≤_}
-use lib.Dec.{ltb}
+use lib.Dec.{eqb, leb, ltb}
 use lib.ListN.{getD, length}
-use mathlib.Core.Bool.{cond}
+use mathlib.Core.Bool.{Bool, cond, _||_}
 use mathlib.Core.List.{List}
 use Rattle.clock.specs.Clock.{lastTick, until}
 use Rattle.clock.specs.declared.Moment.{Moment}
 use Rattle.counting.specs.Count.{count}
 use Rattle.counting.specs.Places.{places}
-use Rattle.finish.specs.Finish.{Finish, isOpen, finishedAt, isJob}
-use Rattle.sizes.specs.Sizes.{mostServers}
+use Rattle.finish.specs.Finish.{Finish, isOpen, finishedAt, finishOf, isJob}
+use Rattle.sizes.specs.Sizes.{mostServers, openJob}
 use Rattle.summary.proofs.SummaryLaws.{totalOf, withResponse}
 use Rattle.summary.specs.Summary.{blank, responseIn, responsesOf}
 use Rattle.summary.specs.declared.Response.{Response}
@@ -25,6 +25,14 @@ counted jobs finished postponed interrupted r =
 -- a record with these two counts
 abbrev pub withCounts : Summary → ℕ → ℕ → Summary
 withCounts s postponed interrupted = counted (s .arrived) (s .finished) postponed interrupted (s .response)
+
+-- whether a number of the list is no finish of a job that came at a moment
+abbrev pub isOpenAt : Moment → ℕ → Bool
+isOpenAt came n = leb n (came .tick) || eqb n openJob
+
+-- the finish of a job that came at a moment, by the number that the list has for it
+abbrev pub finishBy : Moment → ℕ → Finish
+finishBy came n = cond (leb n (came .tick)) isOpen (finishOf n)
 
 -- a record with one job more: an open one has arrived, and any other has finished too
 unfoldable pub withJob : Summary → Moment → Finish → Summary
@@ -45,7 +53,7 @@ overJobs jobs lasted = counted jobs (length lasted) 0 0 (responseIn lasted)
 -- what the first k arrivals of a work and a list of finishes tell of server i
 unfoldable pub recordUpTo : Work → List ℕ → ℕ → ℕ → Summary
 recordUpTo w list k i =
-    cond (ltb i (w .table .count)) (overJobs (count k (isJob w i)) (responsesOf w (finishIn list) i k)) blank
+    cond (ltb i (w .table .count)) (overJobs (count k (isJob w i)) (responsesOf w (finishIn w list) i k)) blank
 
 unfoldable pub recordsUpTo : Work → List ℕ → ℕ → List Summary
 recordsUpTo w list k = places mostServers (recordUpTo w list k)

@@ -3,6 +3,7 @@ use borrow.Author.Needs.{needs}
 use mathlib.Core.Path.{_∙_}
 use native.Mathlib.Omega.{arith}
 use Rattle.books.proofs.Accepted.{judged-accepted}
+use Rattle.books.proofs.jobs.AtLeastOne.{response-positive}
 use Rattle.judgement.proofs.FitLaws.{judged-fit}
 use Rattle.records.proofs.RecordsLaws.{records-of-run}
 use Rattle.refusal.specs.Refusals.{accepted}
@@ -30,7 +31,12 @@ returns c =
     let fit = judged-fit _ _ pre in
     made accepted (came .segments-is)
     (c .of-run .ensures
-    ∙ records-of-run _ _ _ (fit .finishes) (omega (arith, fit .horizon)) (came .finishes-is) _ _ (came .postponed-is) (came .interrupted-is))
+    ∙ records-of-run _ _ _ (fit .finishes) (omega (arith, fit .horizon)) (response-positive _ _ pre)
+    (λ k b. omega (arith, fit .in-time k b, fit .horizon))
+    (came .finishes-is)
+    _
+    _
+    (came .postponed-is) (came .interrupted-is))
     (came .list-is)
     (came .finishes-is)
 
