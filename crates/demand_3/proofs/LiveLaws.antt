@@ -21,7 +21,7 @@ use Rattle.refusal.specs.Refusals.{gave, accepted, onPaper}
 use Rattle.refusal.specs.declared.Verdict.the-variants.{Accepted}
 use Rattle.server.specs.Server.{idle}
 use Rattle.demand_3.specs.Got.{givenBy, isUnder, got}
-use Rattle.demand_3.proofs.CourseLaws.{under-nobody, after-last, got-last}
+use Rattle.demand_3.proofs.CourseLaws.{under-nobody, after-both, after-last, got-both, got-last}
 use Rattle.demand_3.specs.Demand3.{Demand3}
 use Rattle.demand_3.proofs.Demand3Laws.{admitted-demand-3}
 use Rattle.demand_3.specs.Live.{Led, LedCounting, OfAcceptedOpenings, WhereverMovesLead}
@@ -103,6 +103,17 @@ module _ {i : ℕ} {b : Moment} {start d : Dispatcher} {n : ℕ} (led : LedCount
         counted =
             ap₂ _+_ (led .counted) (adds ∙ ap (λ (x : Dispatcher). cond (isUnder i b (givenBy x m)) 1 0) (led .to))
             ∙ sym (got-last i b start (led .moves) m);
+      }
+
+  -- by further moves, which are counted by themselves
+  pub counting-further : {e : Dispatcher} {more : ℕ} → LedCounting i b d e more → LedCounting i b start e (n + more)
+  counting-further then =
+      record {
+        moves = led .moves ++ then .moves;
+        to = then .to ∙ ap (λ (x : Dispatcher). after x (then .moves)) (led .to) ∙ sym (after-both start (led .moves) (then .moves));
+        counted =
+            ap₂ _+_ (led .counted) (then .counted ∙ ap (λ (x : Dispatcher). got i b x (then .moves)) (led .to))
+            ∙ sym (got-both i b start (led .moves) (then .moves));
       }
 
   -- an arrival counts nothing
