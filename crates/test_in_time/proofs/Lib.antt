@@ -1,1 +1,3 @@
+pub mod BandwidthLaws
+pub mod CountedLaws
 pub mod LiveLaws

@@ -1,2 +1,4 @@
+pub mod Bandwidth
+pub mod Counted
 pub mod Live
 pub mod Segments

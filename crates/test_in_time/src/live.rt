@@ -1,6 +1,7 @@
 // Plays File P on a live dispatcher, and writes for each tick that a server got how many ticks were left to its deadline when it ended.
 ghost use Prim.Native.Nat.{_≤_};
 ghost use Rattle.test_in_time.specs.working.Live.{Live};
+use crate::lent;
 use crate::say;
 use clock::Length;
 use clock::Moment;
@@ -13,13 +14,14 @@ pub(crate) fn file_p() {
     open(&[2, 5, 3, 5], Length { ticks: 10 });
 }
 
-// Opens the table, and goes on where it is accepted: of such a table demand 3 speaks.
+// Opens the table, and plays where it is accepted, by value and then lent: of such a table demand 3 speaks.
 fn open(table: &[u64], frame: Length) {
     let opened = opening::open_table(table, frame);
     let answer = opened.answer;
     let start = opened.dispatcher;
     if let Verdict::Accepted = answer {
         moves(start);
+        lent::lines(start);
     }
 }
 

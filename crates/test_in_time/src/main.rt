@@ -1,5 +1,8 @@
-// A caller that relies on demand 3: it plays File P of the rules as live moves and runs it as a work file, and takes the end of each tick
-// and of each segment from its deadline, with no test that it is no later. What it writes is held to the file `stdout`.
+// A caller that relies on demand 3: it plays and runs File P of the rules, and takes the end of each tick and segment from its deadline, and
+// what a server got from its bandwidth, with no test before either. What a server got it counts from a moment at which that had no work
+// waiting, tick by tick as the lent moves answer. What it writes is held to the file `stdout`.
+mod bandwidth;
+mod lent;
 mod live;
 mod say;
 mod traced;

@@ -1,4 +1,5 @@
-// What is left to the deadlines, as lines of text.
+// What is left to the deadlines and of the bandwidth, as lines of text.
+use crate::bandwidth::Window;
 use clock::Length;
 use clock::Moment;
 use libc::STDOUT_FILENO;
@@ -25,6 +26,24 @@ fn under(server: u64, deadline: u64, left: Length) {
     number(deadline);
     words(b", ");
     number(left.ticks);
+    words(b" left\n");
+}
+
+// What a server got in a window, and what that leaves of its bandwidth.
+pub(crate) fn bandwidth(form: &[u8], w: Window, got: u64, whole: u64, left: u64) {
+    words(form);
+    words(b"server ");
+    number(w.server as u64);
+    words(b" got ");
+    number(got);
+    words(b" from ");
+    number(w.from.tick);
+    words(b" on under deadlines up to ");
+    number(w.to.tick);
+    words(b", ");
+    number(left);
+    words(b" of ");
+    number(whole);
     words(b" left\n");
 }
 

@@ -13,7 +13,10 @@ enum-told c = search needs
 moves-requires : tie.Need-moves-requires
 moves-requires c κs =
     let opened = c .before .before .before .open-table in
-    live-opened _ _ (opened .result) (opened .ensures .0) (opened .ensures .1) (c .enum-told .given .1)
+    live-opened _ _ (opened .result) (opened .ensures .0) (c .enum-told .given .1)
+
+lines-requires : tie.Need-lines-requires
+lines-requires c κs = moves-requires (c .before) κs
 
 enum-told-2 : tie.Need-enum-told-2
 enum-told-2 c = search needs
@@ -26,4 +29,12 @@ returns-2 c = tt
 
 pub open-spec : {M : Type 1} → statement M
 open-spec =
-    tie.close (tie.spec open-table-requires enum-told moves-requires enum-told-2 returns returns-2)
+    tie.close
+    (tie.spec
+    open-table-requires
+    enum-told
+    moves-requires
+    lines-requires
+    enum-told-2
+    returns
+    returns-2)

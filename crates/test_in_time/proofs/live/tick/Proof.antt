@@ -1,12 +1,11 @@
 -- `test_in_time::live::tick` meets its promise: a tick is a move, and one that a server got ended no later than its deadline, by demand 3.
 use borrow.Author.Needs.{needs}
-use Rattle.demand_3.proofs.LiveLaws.{live-demand-3}
-use Rattle.test_in_time.proofs.LiveLaws.{live-ticked}
+use Rattle.test_in_time.proofs.LiveLaws.{live-demand, live-ticked}
 use Rattle.test_in_time.proofs.live.tick.Statement.{statement}
 use Rattle.test_in_time.proofs.live.tick.Tie as tie
 
 tick-requires : tie.Need-tick-requires
-tick-requires c κs = c .pre .within
+tick-requires c κs = c .pre .standing .within
 
 enum-known-answer : tie.Need-enum-known-answer
 enum-known-answer c = search needs
@@ -14,9 +13,7 @@ enum-known-answer c = search needs
 left-requires : tie.Need-left-requires
 left-requires c κs =
     let ticked = c .before .before .before .before in
-    let live = ticked .before .pre in
-    live-demand-3 (live .start) (live .table) (live .demand) _ (live .led)
-    .ticks-in-time _ (ticked .tick .ensures .0) _ _ _ (c .before .answer .given .1)
+    live-demand (ticked .before .pre) .ticks-in-time _ (ticked .tick .ensures .0) _ _ _ (c .before .answer .given .1)
 
 tick-requires-2 : tie.Need-tick-requires-2
 tick-requires-2 c κs = tt
@@ -24,12 +21,12 @@ tick-requires-2 c κs = tt
 returns : tie.Need-returns
 returns c =
     let ticked = c .before .before .before .before .before .before in
-    live-ticked (ticked .before .pre) (ticked .tick .result) (ticked .tick .ensures .0) (ticked .tick .ensures .1)
+    live-ticked (ticked .before .pre) (ticked .tick .result) (ticked .tick .ensures .0)
 
 returns-2 : tie.Need-returns-2
 returns-2 c =
     let ticked = c .before .before in
-    live-ticked (ticked .before .pre) (ticked .tick .result) (ticked .tick .ensures .0) (ticked .tick .ensures .1)
+    live-ticked (ticked .before .pre) (ticked .tick .result) (ticked .tick .ensures .0)
 
 pub tick-spec : {M : Type 1} → statement M
 tick-spec =
