@@ -1,3 +1,4 @@
 pub mod BandwidthLaws
 pub mod CountedLaws
+pub mod ListsLaws
 pub mod LiveLaws

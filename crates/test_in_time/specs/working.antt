@@ -1,4 +1,5 @@
 pub mod Bandwidth
 pub mod Counted
+pub mod Lists
 pub mod Live
 pub mod Segments

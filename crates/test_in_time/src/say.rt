@@ -7,11 +7,11 @@ use libc::STDOUT_FILENO;
 // A tick that a server got in the live play.
 pub(crate) fn tick(server: usize, deadline: Moment, left: Length) {
     words(b"live: ");
-    under(server as u64, deadline.tick, left);
+    under(server, deadline, left);
 }
 
 // A segment of the run's trace, by its number.
-pub(crate) fn segment(k: usize, server: u64, deadline: u64, left: Length) {
+pub(crate) fn segment(k: usize, server: usize, deadline: Moment, left: Length) {
     words(b"run: segment ");
     number(k as u64);
     words(b" of ");
@@ -19,11 +19,11 @@ pub(crate) fn segment(k: usize, server: u64, deadline: u64, left: Length) {
 }
 
 // The rest of a line, the same for both.
-fn under(server: u64, deadline: u64, left: Length) {
+fn under(server: usize, deadline: Moment, left: Length) {
     words(b"server ");
-    number(server);
+    number(server as u64);
     words(b" under ");
-    number(deadline);
+    number(deadline.tick);
     words(b", ");
     number(left.ticks);
     words(b" left\n");

@@ -1,13 +1,18 @@
-// Runs File P as a work file, and writes for each segment of its trace how many ticks were left to its deadline when it ended.
-ghost use Prim.Native.Nat.{_+_, _*_, _<_};
+// Runs File P as a work file, and writes what its trace leaves: for each segment, how many ticks were left to its deadline when it ended, and
+// of a server's bandwidth.
+ghost use Prim.Native.Nat.{_*_};
 ghost use lib.ListN.{length};
 ghost use mathlib.Core.Path.{_≡_};
 ghost use Rattle.demand_3.specs.Traces.{InTime};
+ghost use Rattle.test_in_time.specs.working.Lists.{AfterRun};
 ghost use Rattle.test_in_time.specs.working.Segments.{AllInTime};
-ghost use Rattle.trace.specs.Written.{segmentIn};
+use crate::bandwidth::Window;
+use crate::lists;
 use crate::say;
 use clock::Length;
+use clock::Moment;
 use refusal::Verdict;
+use trace::Segment;
 
 // File P: a header, two servers and three arrivals. The trace list holds 6 segments, one more than there are.
 pub(crate) fn file_p() {
@@ -30,45 +35,60 @@ fn lay(numbers: &[u8], file: &mut [u8])
     }
 }
 
-// Runs the file, and writes the segments of an accepted one: of these demand 3 says that they are in time.
+// Runs the file, and writes what demand 3 says of the lists that an accepted one leaves.
 fn run(file: &[u8], list: &mut [u64], finishes: &mut [u32]) {
     let ran = run::run(file, list, finishes);
     let verdict = ran.verdict;
     if let Verdict::Accepted = verdict {
-        segments(list, ran.segments);
+        lines(file, list, ran.segments, finishes);
     }
+}
+
+// A line for each segment, and for each of some windows. Server 0 has work waiting at 6, so its window from there on has none.
+fn lines(file: &[u8], list: &[u64], count: usize, finishes: &[u32])
+    requires { ⌜ AfterRun (now file) (now list) count (now finishes) ⌝ }
+{
+    segments(list, count);
+    lists::line(file, list, count, finishes, window(0, 0, 10));
+    lists::line(file, list, count, finishes, window(0, 6, 15));
+    lists::line(file, list, count, finishes, window(1, 6, 11));
 }
 
 // A line for each segment that the list holds.
 fn segments(list: &[u64], count: usize)
     requires { ⌜ AllInTime count (now list) ⌝ }
 {
-    let room = list.len() / 4;
+    let held = lists::held(list, count);
     let mut k = 0;
-    while k < count && k < room {
-        segment(list, k);
+    while k < held {
+        segment(k, lists::segment_in(list, k));
         k += 1;
     }
 }
 
 // The line of segment k.
-fn segment(list: &[u64], k: usize)
-    requires { ⌜ 4 * k + 3 < length (now list) ⌝ }
-    requires { ⌜ InTime (segmentIn (now list) k) ⌝ }
+fn segment(k: usize, s: Segment)
+    requires { ⌜ InTime s ⌝ }
 {
-    let at = 4 * k;
-    say::segment(k, list[at + 2], list[at + 3], spare(list, k));
+    say::segment(k, s.server, s.deadline, spare(s));
 }
 
-// What lies between the end of segment k and its deadline, which its caller knows to be no earlier.
-fn spare(list: &[u64], k: usize) -> Length
-    requires { ⌜ 4 * k + 3 < length (now list) ⌝ }
-    requires { ⌜ InTime (segmentIn (now list) k) ⌝ }
+// What lies between the end of a segment and its deadline, which its caller knows to be no earlier.
+fn spare(s: Segment) -> Length
+    requires { ⌜ InTime s ⌝ }
 {
-    let at = 4 * k;
-    let deadline = list[at + 3];
-    let end = list[at] + list[at + 1];
     Length {
-        ticks: deadline - end,
+        ticks: s.deadline.tick - (s.start.tick + s.length.ticks),
+    }
+}
+
+// A server's window from a moment to another.
+fn window(server: usize, from: u64, to: u64) -> Window
+    ensures { λ r. ⌜ r .to .tick ≡ to ⌝ }
+{
+    Window {
+        server,
+        from: Moment { tick: from },
+        to: Moment { tick: to },
     }
 }

@@ -1,6 +1,6 @@
--- `test_in_time::traced::run` is safe: demand 3 holds of the trace list that the run of an accepted file leaves.
+-- `test_in_time::traced::run` is safe: demand 3 holds of the lists that the run of an accepted file leaves.
 use borrow.Author.Needs.{needs}
-use Rattle.demand_3.proofs.TracesLaws.{ran-list-demand-3}
+use Rattle.test_in_time.proofs.ListsLaws.{ran-left}
 use Rattle.test_in_time.proofs.traced.run.Statement.{statement}
 use Rattle.test_in_time.proofs.traced.run.Tie as tie
 
@@ -10,10 +10,10 @@ run-requires c κs = tt
 enum-told : tie.Need-enum-told
 enum-told c = search needs
 
-segments-requires : tie.Need-segments-requires
-segments-requires c κs =
-    let ran = c .before .before .before .before .before .before .before .run in
-    ran-list-demand-3 _ _ _ _ _ (ran .result) (ran .ensures) (c .before .enum-told .given .1) .in-time
+lines-requires : tie.Need-lines-requires
+lines-requires c κs =
+    let ran = c .before .before .before .before .before .before .before .before .run in
+    ran-left _ _ _ _ _ (ran .result) (ran .ensures) (c .before .before .enum-told .given .1)
 
 enum-told-2 : tie.Need-enum-told-2
 enum-told-2 c = search needs
@@ -42,7 +42,7 @@ run-spec =
     (tie.spec
     run-requires
     enum-told
-    segments-requires
+    lines-requires
     enum-told-2
     same-length
     same-length-2

@@ -1,41 +1,43 @@
--- `test_in_time::traced::segments` is safe: a number below the count and below a quarter of the length is that of a segment that the list holds.
-use Prim.Native.Nat.{_-_, _/_, _≤_}
-use borrow.Author.Tests.{ltb-true}
-use lib.ListN.{length}
+-- `test_in_time::traced::segments` is safe: a number below the count of those that the list holds is that of a segment in time.
+use Prim.Native.Nat.{_-_, _≤_}
+use mathlib.Core.Path.{subst⁻¹}
 use native.Mathlib.Omega.{arith}
+use Rattle.demand_3.specs.Traces.{InTime}
 use Rattle.test_in_time.proofs.traced.segments.Statement.{statement}
 use Rattle.test_in_time.proofs.traced.segments.Tie as tie
 
 abbrev Inv-loop : tie.InvT-loop
-Inv-loop list count room k₀ k = k ≤ count
+Inv-loop list count held k₀ k = k ≤ held
 
 abbrev μ-loop : tie.MeasureT-loop
-μ-loop list count room k₀ k = count - k
+μ-loop list count held k₀ k = held - k
+
+held-requires : tie.Need-held-requires Inv-loop μ-loop
+held-requires c κs = tt
 
 loop-holds : tie.Need-loop-holds Inv-loop μ-loop
 loop-holds c = omega arith
 
+segment-in-requires : tie.Need-segment-in-requires Inv-loop μ-loop
+segment-in-requires c κs = omega (arith, c .loop-test .taken, c .before .before .held .ensures)
+
 segment-requires : tie.Need-segment-requires Inv-loop μ-loop
 segment-requires c κs =
-    let start = c .before .before .before .before in
-    let k = c .before .before .loop .k in
-    let fits = ltb-true k (length (start .args .list .now) / 4) (c .if1 .taken) in
-    (omega (arith, fits), start .pre k (omega (arith, c .before .loop-test .taken, fits)))
+    let held = c .before .before .before in
+    subst⁻¹ InTime (c .segment-in .ensures)
+    (held .before .before .pre _ (omega (arith, c .before .loop-test .taken, held .held .ensures)))
 
 add-k : tie.Need-add-k Inv-loop μ-loop
 add-k c = omega arith
 
 loop-less : tie.Need-loop-less Inv-loop μ-loop
-loop-less c = omega arith
+loop-less c = omega (arith, c .before .before .loop-test .taken)
 
 loop-again : tie.Need-loop-again Inv-loop μ-loop
-loop-again c = omega arith
+loop-again c = omega (arith, c .before .before .loop-test .taken)
 
 returns : tie.Need-returns Inv-loop μ-loop
 returns c = tt
-
-returns-2 : tie.Need-returns-2 Inv-loop μ-loop
-returns-2 c = tt
 
 pub segments-spec : {M : Type 1} → statement M
 segments-spec =
@@ -43,10 +45,11 @@ segments-spec =
     (tie.spec
     Inv-loop
     μ-loop
+    held-requires
     loop-holds
+    segment-in-requires
     segment-requires
     add-k
     loop-less
     loop-again
-    returns
-    returns-2)
+    returns)
