@@ -1,5 +1,5 @@
 -- "A moment on the clock and a length of work or time are kept apart: a deadline is a moment, a budget is a length. Two moments
--- are never added." (document 01) The clock of these definitions has no end.
+-- are never added." (document 01) Moments and lengths of these definitions are numbers without a bound.
 use Prim.Native.Nat.{ℕ, _+_, _-_, min}
 use Rattle.clock.specs.declared.Length.{Length}
 use Rattle.clock.specs.declared.Moment.{Moment}

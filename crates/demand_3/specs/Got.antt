@@ -30,4 +30,4 @@ got i b d (m ∷ more) = cond (isUnder i b (givenBy d m)) 1 0 + got i b (moved d
 -- so many ticks of a booking's server from a on, under deadlines no later than b, "times its period, are at most (b minus a) times its
 -- budget"
 abbrev pub WithinBandwidth : Booking → (a b : Moment) → ℕ → Type 0
-WithinBandwidth k a b ticks = ticks * k .period .ticks ≤ until a b .ticks * k .budget .ticks
+WithinBandwidth booking a b n = n * booking .period .ticks ≤ until a b .ticks * booking .budget .ticks

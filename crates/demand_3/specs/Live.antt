@@ -31,7 +31,8 @@ pub record LedCounting (i : ℕ) (b : Moment) (start d : Dispatcher) (n : ℕ) :
 
 -- what holds of a dispatcher that a caller holds, its table being t
 pub record LiveDemand3 (t : Table) (d : Dispatcher) : Type 0 where
-  -- server i has no work waiting: so many ticks it gets by any moves from here to e, under deadlines no later than b
+  -- server i has no work waiting: the n ticks that it gets by any moves from here to e, under deadlines no later than b, are within its
+  -- bandwidth
   pub bandwidth : (i : ℕ) → i < t .count → idle (serverAt d i) ≡ true → (b : Moment) (e : Dispatcher) (n : ℕ) → LedCounting i b d e n
       → WithinBandwidth (t .booking i) (d .clock) b n
   -- a server with work waiting has its deadline ahead

@@ -10,7 +10,7 @@ use Rattle.clock.specs.Clock.{later, ticks}
 use Rattle.clock.specs.declared.Length.{Length}
 use Rattle.clock.specs.declared.Moment.{Moment}
 use Rattle.refusal.specs.Refusals.{numberOf, placeOf, Said, refused, gave, accepted, onPaper}
-use Rattle.server.specs.Moves.{arrived, oneTickLess, spent, served}
+use Rattle.server.specs.Moves.{arrived, spendsLast, served}
 use Rattle.server.specs.declared.Server.{Server}
 use Rattle.sizes.specs.Sizes.{clockEnd, mostWaiting}
 use Rattle.dispatcher.specs.declared.Arrived.{Arrived}
@@ -63,7 +63,7 @@ pub data Turn : Type 0 where
 -- server i runs: step 3 at it, then step 4, "The clock is t + 1". The deadline is "the one in force before step 3".
 unfoldable pub ran : Dispatcher → ℕ → Moved Turn
 ran d i =
-    leaving (gave (ranOne i (serverAt d i .deadline) (spent (oneTickLess (serverAt d i)))))
+    leaving (gave (ranOne i (serverAt d i .deadline) (spendsLast (serverAt d i))))
     (standing d (later (d .clock) (ticks 1)) (set (d .servers) i (served (serverAt d i))))
 
 -- 10: "a live tick when the clock stands at 2,419,200". Otherwise the server that step 2 picks runs; "If there is none, the tick is

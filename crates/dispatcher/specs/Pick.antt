@@ -11,6 +11,7 @@ use Rattle.server.specs.Server.{vacant, idle}
 use Rattle.server.specs.declared.Server.{Server}
 use Rattle.dispatcher.specs.declared.Dispatcher.{Dispatcher}
 
+-- the server at place i, and a vacant one where there is no place
 abbrev pub serverAt : Dispatcher → ℕ → Server
 serverAt d i = getD (d .servers) i vacant
 

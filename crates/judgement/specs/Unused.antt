@@ -18,7 +18,7 @@ InBlock b bytes p = (b .offset ≤ p) × (p < b .offset + bytes * b .count)
 abbrev pub Used : Header → ℕ → Type 0
 Used h p = (p < headerBytes) ⊎ (InBlock (h .servers) serverBytes p ⊎ InBlock (h .arrivals) arrivalBytes p)
 
--- two files that have the same bytes there, and whose lengths 1 and 3 judge alike
+-- two files that have the same bytes there, and whose lengths refusals 1 and 3 judge alike
 pub record SameUse (file other : List ℕ) : Type 0 where
   pub bytes : (p : ℕ) → Used (header file) p → getD file p 0 ≡ getD other p 0
   pub size : lengthOutOfRange (length file) ≡ lengthOutOfRange (length other)

@@ -13,8 +13,8 @@ use Rattle.refusal.specs.Refusals.{Said, refused, gave}
 use Rattle.workfile.specs.Work.{Work}
 
 -- step 1: "The arrivals of t are taken in list order", t being the moment at which the dispatcher stands. These are the ones of t among
--- the first k arrivals. (A file that is accepted has no arrival that a live move would refuse: none is faulty, and all its costs
--- together are less than may wait at one server.)
+-- the first k arrivals. (No arrival of an accepted file is refused here, `every-arrival-taken` of books: none is faulty, and all its costs
+-- together, at most 4,096 × 604,800 = 2,477,260,800, are less than may wait at one server.)
 unfoldable pub taken : Work → ℕ → Dispatcher → Dispatcher
 taken w zero d = d
 taken w (suc k) d =
@@ -26,7 +26,7 @@ taken w (suc k) d =
 abbrev pub allTaken : Work → Dispatcher → Dispatcher
 allTaken w d = taken w (w .arrivals) d
 
--- the dispatcher at moment t, before its arrivals are taken; steps 2 to 4 are a tick
+-- the dispatcher at moment t, before its arrivals are taken; at t + 1 it is the one after the tick, steps 2 to 4, of `ready` at t
 unfoldable pub atMoment : Work → ℕ → Dispatcher
 atMoment w zero = atStart (w .frame) (w .table)
 atMoment w (suc t) = tick (allTaken w (atMoment w t)) .dispatcher
@@ -35,17 +35,17 @@ atMoment w (suc t) = tick (allTaken w (atMoment w t)) .dispatcher
 unfoldable pub ready : Work → ℕ → Dispatcher
 ready w t = allTaken w (atMoment w t)
 
--- what its tick answers; before N, which is no later than the clock's end, none is refused
-
+-- what its tick answers; before N, which is no later than the clock's end, none is refused (`every-tick-given` of books)
 unfoldable pub turn : Work → ℕ → Said Turn
 turn w t = tick (ready w t) .answer
 
--- what the tick of moment t is given to; the deadline is "the one in force before step 3"
+-- what a tick that answers so is given to; the deadline is "the one in force before step 3"
 abbrev pub choiceOf : Said Turn → Choice
 choiceOf (refused number place) = nobody
 choiceOf (gave idled) = nobody
 choiceOf (gave (ranOne i deadline postponed)) = given i deadline
 
+-- what the tick of each moment is given to
 unfoldable pub history : Work → History
 history w t = choiceOf (turn w t)
 

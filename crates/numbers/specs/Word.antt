@@ -3,7 +3,7 @@ use Prim.Native.Nat.{ℕ, _+_, _*_}
 use lib.ListN.{getD}
 use mathlib.Core.List.{List}
 
--- the number that starts at a byte of the file; there is nothing behind the file's end, and nothing counts 0
+-- the number that starts at a byte of the file; a byte behind the file's end counts 0
 unfoldable pub numberAt : List ℕ → ℕ → ℕ
 numberAt file at =
     getD file at 0 + 256 * getD file (at + 1) 0 + 65_536 * getD file (at + 2) 0 + 16_777_216 * getD file (at + 3) 0

@@ -4,7 +4,7 @@ use lib.ListN.{length, take}
 use mathlib.Core.List.{List, [], _∷_, _++_}
 use Rattle.arrival.specs.declared.Arrival.{Arrival}
 use Rattle.booking.specs.Admission.{shares}
-use Rattle.clock.specs.Clock.{moment, until}
+use Rattle.clock.specs.Clock.{until}
 use Rattle.clock.specs.declared.Moment.{Moment}
 use Rattle.finish.specs.Finish.{Finish, isOpen, finishedAt}
 use Rattle.judgement.specs.Judgement.{judged}

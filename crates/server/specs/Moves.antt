@@ -48,6 +48,10 @@ postponed s = holding s (s .budget) (later (s .deadline) (s .period)) (s .waitin
 abbrev pub spent : Server → Bool
 spent s = eqb (s .remaining .ticks) 0
 
+-- whether this tick is the last of the budget, and so postpones the server
+abbrev pub spendsLast : Server → Bool
+spendsLast s = spent (oneTickLess s)
+
 -- the whole step
 unfoldable pub served : Server → Server
-served s = cond (spent (oneTickLess s)) (postponed (oneTickLess s)) (oneTickLess s)
+served s = cond (spendsLast s) (postponed (oneTickLess s)) (oneTickLess s)

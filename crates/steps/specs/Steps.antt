@@ -1,6 +1,6 @@
--- What steps 1 and 3 of a moment make of any server. Step 1 is document 01's (`Rattle.server.specs.Moves`) unless something is beyond or
--- the work is too much, step 3 unless the server is unserved; else the server stays as it is. A dispatcher takes neither step there
--- (`arrival-ranged`, `tick-ranged`).
+-- What steps 1 and 3 of a moment make of any server, so that the code of both has a promise for all numbers. They are document 01's steps
+-- (`Rattle.server.specs.Moves`), but where something is beyond its range or the work is too much in step 1, and where the server is unserved
+-- in step 3: there it stays as it is. No rule stands behind that, and a dispatcher takes no such step (`arrival-ranged`, `tick-ranged`).
 use Prim.Native.Nat.{ℕ, _+_, _*_}
 use lib.Dec.{ltb}
 use mathlib.Core.Bool.{Bool, cond, _||_}

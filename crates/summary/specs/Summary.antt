@@ -46,7 +46,7 @@ arrivedOf w i = count (w .arrivals) (isJob w i)
 
 -- Of a work and the finish of each of its jobs, server i:
 module _ (w : Work) (f : ℕ → Finish) (i : ℕ) where
-  -- the responses of its "finished jobs alone", among the first n arrivals, in order
+  -- the responses of its "finished jobs alone", among the first k arrivals, in order
   unfoldable pub responsesOf : ℕ → List ℕ
   responsesOf zero = []
   responsesOf (suc k) = responsesOf k ++ cond (isJob w i k) (responseOf w k (f k)) []

@@ -17,7 +17,7 @@ abbrev pub digit : ℕ → ℕ
 digit d = code "0" + d
 
 -- A number in decimal: one digit where it is below 10, and else a tenth of it in decimal and its last digit. `most` bounds how many
--- digits there are; a number has no more than itself and one, so that the bound cuts nothing (`decimal-last`, `decimal-more` of LineLaws).
+-- digits there are; n + 1 is more than enough, as each step divides by 10 (`decimal-last`, `decimal-more` of LineLaws: the bound cuts nothing).
 unfoldable pub digitsUpTo : ℕ → ℕ → List ℕ
 digitsUpTo zero n = []
 digitsUpTo (suc most) n = cond (ltb n 10) (digit n ∷ []) (digitsUpTo most (n / 10) ++ digit (n % 10) ∷ [])

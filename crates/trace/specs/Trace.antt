@@ -8,7 +8,7 @@ use Rattle.counting.specs.First.{first}
 use Rattle.history.specs.Choice.{Choice, nobody, given, History, same}
 use Rattle.trace.specs.declared.Segment.{Segment}
 
--- a stretch begins at 0, and wherever a tick goes to another server than the one before it, under another deadline, or to none
+-- a stretch begins at 0, and wherever a tick is not given as the one before it is: to another server, under another deadline, or to none
 unfoldable pub begins : History → ℕ → Bool
 begins h zero = true
 begins h (suc t) = not (same (h t) (h (suc t)))
