@@ -479,6 +479,19 @@ function page(    g) {
     print "`specs/working/`; where one that stands there is not come to; and where what must be believed is more than " limit " lines.\n"
     print "A definition is in the first group that comes to it. Its lines are those of its signature and its clauses, fields or"
     print "constructors, without comments and blank lines.\n"
+    print "They are written in these words of the toolchain's kit; a number has no bound:\n"
+    print "| In the kit | What it is |\n|---|---|"
+    print "| `m - n`, `m / n`, `m % n` | `-` stops at 0, `/` rounds down, `%` is the rest; nothing rests on what the two are by 0 |"
+    print "| `eqb m n`, `leb m n`, `ltb m n` | whether m = n, m ≤ n, m < n |"
+    print "| `suc n` | n + 1 |"
+    print "| `cond b x y` | x where b is true, and else y |"
+    print "| `getD l i x` | what stands at place i of a list, counted from 0; x from its end on |"
+    print "| `set l i x` | the list with x at place i; the same list from its end on |"
+    print "| `take n l`, `drop n l` | the first n places, all where there are fewer; the others |"
+    print "| `replicate n x`, `x ∷ l`, `l ++ m` | n times x; l with x in front; l and then m |"
+    print "| `code c` | the number of a character |"
+    print "| `Unit`, `A × B`, `A ⊎ B` | nothing is said; both are; one of the two is |"
+    print ""
     print "| Group | Definitions | Lines | Files |\n|---|---|---|---|"
     for (g = 1; g <= believed; g++) sum(link(title_of[g]), g, g, 0)
     sum("**All that must be believed**", 1, believed, 0)
@@ -528,14 +541,14 @@ END {
     end_group()
     believed = groups
     new_group("What laws that are read by themselves speak of", \
-        "These need not be believed: nothing above comes to them. In these words are said the laws that are [read by\n" \
+        "No contract rests on these: nothing above comes to them. In these words are said the laws that are [read by\n" \
         "themselves](PROMISES.md#laws-that-are-read-by-themselves), and those that each promise allows one outcome and asks\n" \
         "nothing.")
     root_table("Laws that are read by themselves")
     for (c = 1; c <= crates; c++) if (!root_public(crate_at[c], "law") && root_public(crate_at[c], "function"))
         problem("crates/" crate_at[c] "/proofs: there is no law that the promises of this crate allow one outcome")
     end_group()
-    new_group("Worked examples", "Nor need these: the examples that were worked out by hand, and what each says of the definitions.")
+    new_group("Worked examples", "Nor on these: the examples that were worked out by hand, and what each says of the definitions.")
     root_law("checked_by_hand/ByHand", "all-hold", "tools/believed.awk")
     end_group()
 
