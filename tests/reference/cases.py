@@ -555,7 +555,7 @@ FORMAT = """\
 # T and F: the places of the lent trace list, each 7 before the run, and of the finish list, each 9.
 # L: the bytes of the file. W: how many 32-bit numbers follow, written low byte first from byte 0 on; every byte behind them is 170.
 # The output of a case: accepted, or refused with number and place; the count of segments; all places of the two lists; a line for
-# each record that is not blank. It is told by tests/work_files/reference.py, which was written from the rules alone.
+# each record that is not blank. It is told by tests/reference/reference.py, which was written from the rules alone.
 """
 
 if __name__ == "__main__":
