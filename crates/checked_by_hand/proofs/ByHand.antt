@@ -20,11 +20,12 @@ use Rattle.report.specs.DayReport.{dayReport, segmentLines, jobLine, serverLine
 use Rattle.server.specs.Moves as server
 use Rattle.summary.specs.Summary.{arrivedOf, finishedOf, howMany, interruptedOf, responseIn, responses, responsesOf, summaryOf}
 use Rattle.text.specs.Line.{decimal, digitsUpTo, each}
+use Rattle.trace.specs.Ticks.{sumOver}
 use Rattle.trace.specs.Trace.{begins, begun, lasting}
 use Rattle.workfile.specs.Layout.{arrivalAt, bookingAt, header}
 use Rattle.workfile.specs.Work.{work}
 use Rattle.checked_by_hand.specs.ByHand.{AllHold, checkedByHand}
 
 pub all-hold : AllHold checkedByHand
-unfolding dayReport segmentLines jobLine serverLine decimal digitsUpTo each server.renews server.arrived server.served tableJudged first sum total longest every count places arrival ran tick mayRun picked atStart firstServed servedBy workOf isFor same ticksServed atMoment history postponedBy ready taken turn waitingAt numberAt arrivedOf finishedOf howMany interruptedOf responseIn responses responsesOf summaryOf begins begun lasting isUnder judgement.arrivalJudged judgement.arrivalsJudged judgement.workJudged judgement.judged arrivalAt bookingAt header work
+unfolding dayReport segmentLines jobLine serverLine decimal digitsUpTo each server.renews server.arrived server.served tableJudged first sum total longest every count places arrival ran tick mayRun picked atStart firstServed servedBy workOf isFor same ticksServed atMoment history postponedBy ready taken turn waitingAt numberAt arrivedOf finishedOf howMany sumOver interruptedOf responseIn responses responsesOf summaryOf begins begun lasting isUnder judgement.arrivalJudged judgement.arrivalsJudged judgement.workJudged judgement.judged arrivalAt bookingAt header work
 all-hold = (refl, (refl, (refl, (refl, (refl, (refl, (refl, (refl, (refl, (refl, (refl, (refl, (refl, (refl, (refl, (refl, (refl, (refl, (refl, (refl, (refl, (refl, (refl, (refl, (refl, (refl, (refl, (refl, (refl, tt)))))))))))))))))))))))))))))

@@ -11,6 +11,7 @@ use Rattle.finish.specs.Finish.{Finish, isJob}
 use Rattle.moments.proofs.PostponedLaws.{postponed-le}
 use Rattle.moments.specs.Moments.{history}
 use Rattle.trace.proofs.SegmentLaws.{begun-few}
+use Rattle.trace.specs.Ticks.{sumOver}
 use Rattle.trace.specs.Trace.{trace}
 use Rattle.trace.specs.declared.Segment.{Segment}
 use Rattle.workfile.specs.Work.{Work}
@@ -42,10 +43,10 @@ unfolding responses
 responses-at-most w f i N each = response-at-most (w .arrivals * N) (responsesOf w f i (w .arrivals)) (responses-total w f i N each)
 
 -- what passes a test is no more than there is
-many-le : (p : Segment → Bool) (l : List Segment) → howMany p l ≤ length l
-unfolding howMany
-many-le p [] = omega arith
-many-le p (s ∷ l) = go (p s) (many-le p l)
+pub howMany-le : (p : Segment → Bool) (l : List Segment) → howMany p l ≤ length l
+unfolding howMany sumOver
+howMany-le p [] = omega arith
+howMany-le p (s ∷ l) = go (p s) (howMany-le p l)
   where
     go : (b : Bool) → howMany p l ≤ length l → cond b 1 0 + howMany p l ≤ length (s ∷ l)
     go true h = omega arith
@@ -54,7 +55,7 @@ many-le p (s ∷ l) = go (p s) (many-le p l)
 interrupted-le : (w : Work) (i : ℕ) → interruptedOf w i ≤ w .horizon .tick
 unfolding interruptedOf
 interrupted-le w i =
-    le-trans (many-le _ (trace (history w) (w .horizon .tick))) (begun-few (history w) (w .horizon .tick) (w .horizon .tick))
+    le-trans (howMany-le _ (trace (history w) (w .horizon .tick))) (begun-few (history w) (w .horizon .tick) (w .horizon .tick))
 
 arrived-le : (w : Work) (i : ℕ) → arrivedOf w i ≤ w .arrivals
 unfolding arrivedOf

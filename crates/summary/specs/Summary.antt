@@ -1,6 +1,6 @@
 -- The summary of a run (document 01, "One moment of the clock"): "an array of 64 records handed back whole, one per server, blank from n
 -- on: arrived, finished, postponed, interrupted, and the response."
-use Prim.Native.Nat.{ℕ, zero, suc, _+_}
+use Prim.Native.Nat.{ℕ, zero, suc}
 use lib.Dec.{eqb, ltb}
 use lib.ListN.{length}
 use mathlib.Core.Bool.{Bool, cond, _&&_}
@@ -12,7 +12,7 @@ use Rattle.counting.specs.Totals.{total, longest}
 use Rattle.finish.specs.Finish.{Finish, isOpen, finishedAt, finish, isJob}
 use Rattle.moments.specs.Moments.{history, postponedBy, waitingAt}
 use Rattle.sizes.specs.Sizes.{mostServers}
-use Rattle.trace.specs.Ticks.{endOf}
+use Rattle.trace.specs.Ticks.{endOf, sumOver}
 use Rattle.trace.specs.Trace.{trace}
 use Rattle.trace.specs.declared.Segment.{Segment}
 use Rattle.workfile.specs.Work.{Work}
@@ -61,8 +61,7 @@ module _ (w : Work) (f : ℕ → Finish) (i : ℕ) where
 
 -- how many segments of a trace pass a test
 unfoldable pub howMany : (Segment → Bool) → List Segment → ℕ
-howMany p [] = 0
-howMany p (s ∷ more) = cond (p s) 1 0 + howMany p more
+howMany p = sumOver (λ s. cond (p s) 1 0)
 
 -- a segment of server i that ends "with work of their server still waiting, looked at before the arrivals of the ending moment"
 abbrev pub leavesWork : Work → ℕ → Segment → Bool

@@ -16,10 +16,10 @@ use Rattle.trace.specs.Trace.{segmentsOf, begun, trace}
 use Rattle.trace.proofs.TraceLaws.{trace-stretch}
 
 -- two lists add up to what each does
-added-append : (f : Segment → ℕ) (l m : List Segment) → sumOver f (l ++ m) ≡ sumOver f l + sumOver f m
+pub sumOver-append : (f : Segment → ℕ) (l m : List Segment) → sumOver f (l ++ m) ≡ sumOver f l + sumOver f m
 unfolding sumOver
-added-append f [] m = omega arith
-added-append f (s ∷ l) m = omega (arith, added-append f l m)
+sumOver-append f [] m = omega arith
+sumOver-append f (s ∷ l) m = omega (arith, sumOver-append f l m)
 
 -- Of a test that no idle tick passes, and the ticks at moment a or later.
 module _ (h : History) (p : Choice → Bool) (idle : p nobody ≡ false) (a : Moment) where
@@ -56,6 +56,6 @@ module _ (h : History) (p : Choice → Bool) (idle : p nobody ≡ false) (a : Mo
       by-stretches h (λ (N : ℕ). sumOver (ticksOf p a) (trace h N) ≡ count (N - a .tick) passes)
       (sym (ap (λ (n : ℕ). count n passes) (omega arith) ∙ count-empty passes))
       (λ e k begin all so. ap (sumOver (ticksOf p a)) (trace-stretch h e k (h e) all begin)
-      ∙ added-append (ticksOf p a) (trace h e) (segmentsOf (h e) e (suc k))
+      ∙ sumOver-append (ticksOf p a) (trace h e) (segmentsOf (h e) e (suc k))
       ∙ ap₂ _+_ so (segments-added (h e) e (suc k))
       ∙ sym (alike-counted (h e) e (suc k) all))

@@ -1,22 +1,24 @@
 -- The segments of a run at moment t: those that ended, and the stretch that it is in.
-use Prim.Native.Nat.{ℕ, zero, suc, _+_, _≤_, _<_}
+use Prim.Native.Nat.{ℕ, suc, _+_, _≤_, _<_}
 use borrow.Author.Tests.{eqb-true, eq-eqb}
 use lib.Dec.{eqb, ltb}
-use lib.ListN.{length, getD, set, length-set, length-append, replicate, length-replicate, getD-replicate, List·getD-eq-default}
+use lib.ListN.{length, getD, set, length-set, replicate, length-replicate, getD-replicate, List·getD-eq-default}
 use mathlib.Core.Bool.{Bool, true, false, cond, _&&_}
-use mathlib.Core.List.{List, [], _∷_}
+use mathlib.Core.List.{List}
 use mathlib.Core.Path.{_≡_, refl, sym, _∙_, ap, ap₂, subst, subst⁻¹}
 use native.Mathlib.Decide.{decLt}
 use native.Mathlib.Omega.{arith}
 use Rattle.clock.specs.Clock.{moment}
 use Rattle.clock.specs.declared.Moment.{Moment}
 use Rattle.counting.proofs.TestLaws.{and-left, and-right, and-both, not-both}
-use Rattle.history.specs.Choice.{Choice, nobody, given, History}
+use Rattle.history.specs.Choice.{nobody, given}
 use Rattle.moments.specs.Moments.{history, waitingAt}
 use Rattle.sizes.specs.Sizes.{mostServers}
+use Rattle.summary.proofs.BoundLaws.{howMany-le}
 use Rattle.summary.specs.Summary.{howMany, leavesWork}
-use Rattle.trace.specs.Trace.{begins, lasting, segmentsOf, begun, trace}
-use Rattle.trace.specs.declared.Segment.{Segment}
+use Rattle.trace.proofs.SegmentLaws.{begun-few}
+use Rattle.trace.specs.Ticks.{sumOver}
+use Rattle.trace.specs.Trace.{begun, trace}
 use Rattle.workfile.specs.Work.{Work}
 use Rattle.books.specs.declared.Current.{Current}
 use Rattle.books.proofs.stretches.Stretches.{chosen, chosen-server, chosen-nobody, Stretch, stretch-start, stretch-on, stretch-new, Segments, segments-start, segments-end, Interrupted, interrupted-end, interruptedAfter}
@@ -36,7 +38,7 @@ abbrev pub atRest : Current
 atRest = record { start = moment 0; server = mostServers; deadline = moment 0; waits = 0; count = 0 }
 
 pub segmented-start : (w : Work) (lent : List ℕ) → Segmented w lent lent (replicate mostServers 0) atRest 0
-unfolding begun howMany
+unfolding begun howMany sumOver
 segmented-start w lent =
     record {
       stretch = subst⁻¹ (Stretch w 0 0) (chosen-nobody mostServers (moment 0) (omega arith)) (stretch-start w);
@@ -46,32 +48,6 @@ segmented-start w lent =
       waiting = λ b. let no : ⊥ = omega arith in absurd no;
       alike = λ b. (refl, refl);
     }
-
--- there are no more segments than ticks
-length-le-one : (b : Bool) (x : Choice) (t k : ℕ) → length (cond b (segmentsOf x t k) []) ≤ 1
-length-le-one false x t k = omega arith
-length-le-one true nobody t k = omega arith
-length-le-one true (given i d) t k = omega arith
-
-begun-length : (h : History) (N t : ℕ) → length (begun h N t) ≤ t
-unfolding begun
-begun-length h N zero = omega arith
-begun-length h N (suc t) =
-    omega (
-      arith,
-      length-append (begun h N t) (cond (begins h t) (segmentsOf (h t) t (lasting h N t)) []),
-      begun-length h N t,
-      length-le-one (begins h t) (h t) t (lasting h N t),
-    )
-
-howMany-le : (p : Segment → Bool) (l : List Segment) → howMany p l ≤ length l
-unfolding howMany
-howMany-le p [] = omega arith
-howMany-le p (s ∷ l) = go (p s) (howMany-le p l)
-  where
-    go : (b : Bool) → howMany p l ≤ length l → cond b 1 0 + howMany p l ≤ suc (length l)
-    go true le = omega arith
-    go false le = omega arith
 
 -- an interruption changes no length
 interrupted-length : (i waits : ℕ) (list : List ℕ) → length (interruptedAfter i waits list) ≡ length list
@@ -96,7 +72,7 @@ withWaits c n = record { start = c .start; server = c .server; deadline = c .dea
 module _ {w : Work} {lent list interrupted : List ℕ} {c : Current} {t : ℕ} (s : Segmented w lent list interrupted c t) where
   pub segmented-count : c .count ≤ t
   segmented-count =
-      omega (arith, s .segments .count-is, begun-length (history w) (c .start .tick) (c .start .tick), s .stretch .from)
+      omega (arith, s .segments .count-is, begun-few (history w) (c .start .tick) (c .start .tick), s .stretch .from)
 
   pub segmented-cut : (j : ℕ) → getD interrupted j 0 ≤ t
   segmented-cut j = go (decLt j mostServers)
@@ -107,7 +83,7 @@ module _ {w : Work} {lent list interrupted : List ℕ} {c : Current} {t : ℕ} (
             arith,
             s .cut j l,
             howMany-le (leavesWork w j) (trace (history w) (c .start .tick)),
-            begun-length (history w) (c .start .tick) (c .start .tick),
+            begun-few (history w) (c .start .tick) (c .start .tick),
             s .stretch .from,
           )
       go (no l) = omega (arith, List·getD-eq-default interrupted 0 {n = j} (omega (arith, s .places)))

@@ -5,7 +5,7 @@ use lib.Dec.{eqb, ltb}
 use lib.ListN.{length, getD, set, length-append}
 use lib.Seq.{getD-set-same, getD-set-other}
 use mathlib.Core.Bool.{Bool, true, false, not, cond, _&&_}
-use mathlib.Core.List.{List, [], _∷_, _++_, append-nil}
+use mathlib.Core.List.{List, [], _++_, append-nil}
 use mathlib.Core.Path.{_≡_, refl, sym, _∙_, ap, ap₂, subst, subst⁻¹}
 use native.Mathlib.Decide.{decLt, ℕ-discrete}
 use native.Mathlib.Nat.{add-sub-of-le, add-zero}
@@ -19,9 +19,10 @@ use Rattle.history.specs.Choice.{Choice, nobody, given, History, same}
 use Rattle.moments.specs.Moments.{history, waitingAt}
 use Rattle.sizes.specs.Sizes.{mostServers}
 use Rattle.summary.specs.Summary.{howMany, leavesWork, interruptedOf}
+use Rattle.trace.proofs.TickLaws.{sumOver-append}
 use Rattle.trace.proofs.TraceLaws.{trace-stretch}
 use Rattle.trace.proofs.WrittenLaws.{written-more}
-use Rattle.trace.specs.Ticks.{endOf}
+use Rattle.trace.specs.Ticks.{endOf, sumOver}
 use Rattle.trace.specs.Trace.{begins, lasting, segmentsOf, begun, trace}
 use Rattle.trace.specs.Written.{written, put}
 use Rattle.trace.specs.declared.Segment.{Segment}
@@ -201,12 +202,6 @@ segments-end {w} {lent} {list} {count} {e} {t} i d s g = go (decLt i mostServers
           count-is = rw (le-ltb i mostServers (omega arith), whole) (g .count-is);
         }
 
--- how many of two lists pass
-howMany-append : (p : Segment → Bool) (l m : List Segment) → howMany p (l ++ m) ≡ howMany p l + howMany p m
-unfolding howMany
-howMany-append p [] m = omega arith
-howMany-append p (s ∷ l) m = omega (arith, howMany-append p l m)
-
 -- the interruptions of each server, of the segments that ended before e
 abbrev pub Interrupted : Work → List ℕ → ℕ → Type 0
 Interrupted w list e = (j : ℕ) → j < mostServers → getD list j 0 ≡ howMany (leavesWork w j) (trace (history w) e)
@@ -215,10 +210,10 @@ Interrupted w list e = (j : ℕ) → j < mostServers → getD list j 0 ≡ howMa
 leaves-more : {w : Work} {e t i : ℕ} {d : Moment} (j : ℕ) → Stretch w e t (given i d)
     → howMany (leavesWork w j) (trace (history w) t)
     ≡ howMany (leavesWork w j) (trace (history w) e) + cond (eqb i j && ltb 0 (waitingAt w j t)) 1 0
-unfolding howMany
+unfolding howMany sumOver
 leaves-more {w} {e} {t} {i} {d} j s =
     ap (howMany (leavesWork w j)) (stretch-trace s)
-    ∙ howMany-append (leavesWork w j) (trace (history w) e) (segmentsOf (given i d) e (t - e))
+    ∙ sumOver-append _ (trace (history w) e) (segmentsOf (given i d) e (t - e))
     ∙ ap (λ (n : ℕ). howMany (leavesWork w j) (trace (history w) e) + n)
     (add-zero (cond (eqb i j && ltb 0 (waitingAt w j (e + (t - e)))) 1 0)
     ∙ ap (λ (u : ℕ). cond (eqb i j && ltb 0 (waitingAt w j u)) 1 0) (add-sub-of-le (s .from)))
@@ -270,12 +265,12 @@ ends h N b le = omega (arith, first-le (N - b) (λ k. not (same (h b) (h (b + k)
 -- At the horizon. What ended before the last stretch ended before N, and the last one does not.
 howMany-same : (p q : Segment → Bool) (h : History) (N t : ℕ) → ((s : Segment) → endOf s .tick ≤ N → p s ≡ q s) → t ≤ N
     → howMany p (begun h N t) ≡ howMany q (begun h N t)
-unfolding begun howMany
+unfolding begun howMany sumOver
 howMany-same p q h N zero alike le = refl
 howMany-same p q h N (suc t) alike le =
-    howMany-append p (begun h N t) (cond (begins h t) (segmentsOf (h t) t (lasting h N t)) [])
+    sumOver-append _ (begun h N t) (cond (begins h t) (segmentsOf (h t) t (lasting h N t)) [])
     ∙ ap₂ _+_ (howMany-same p q h N t alike (omega arith)) (here (begins h t) (h t))
-    ∙ sym (howMany-append q (begun h N t) (cond (begins h t) (segmentsOf (h t) t (lasting h N t)) []))
+    ∙ sym (sumOver-append _ (begun h N t) (cond (begins h t) (segmentsOf (h t) t (lasting h N t)) []))
   where
     here : (b : Bool) (x : Choice) → howMany p (cond b (segmentsOf x t (lasting h N t)) []) ≡ howMany q
         (cond b (segmentsOf x t (lasting h N t)) [])
@@ -290,10 +285,10 @@ module _ {w : Work} {e : ℕ} (i : ℕ) (d : Moment) (s : Stretch w e (w .horizo
 
   -- those that ended before the last stretch are all of them
   pub interrupted-whole : (j : ℕ) → interruptedOf w j ≡ howMany (leavesWork w j) (trace (history w) e)
-  unfolding begun interruptedOf howMany
+  unfolding begun interruptedOf howMany sumOver
   interrupted-whole j =
       ap (howMany (before j)) (stretch-trace s)
-      ∙ howMany-append (before j) (trace (history w) e) (segmentsOf (chosen i d) e (w .horizon .tick - e))
+      ∙ sumOver-append _ (trace (history w) e) (segmentsOf (chosen i d) e (w .horizon .tick - e))
       ∙ ap₂ _+_ ended (last (chosen i d))
       ∙ add-zero (howMany (leavesWork w j) (trace (history w) e))
     where
