@@ -12,7 +12,7 @@ use Rattle.clock.specs.Clock.{moment}
 use Rattle.dispatcher.specs.Pick.{serverAt}
 use Rattle.moments.specs.Moments.{atMoment, history, waitingAt}
 use Rattle.refusal.specs.declared.Verdict.the-variants.{Accepted}
-use Rattle.run.proofs.OutcomeLaws.{ran-judged, ran-accepting}
+use Rattle.run.proofs.OutcomeLaws.{outcome-accepted, ran-judged, ran-accepting}
 use Rattle.run.specs.Outcome.{Outcome, runSays, outcome}
 use Rattle.run.specs.declared.Ran.{Ran}
 use Rattle.trace.proofs.HeldLaws.{held-has, held-added}
@@ -28,7 +28,7 @@ use Rattle.demand_3.specs.Got.{isUnder}
 use Rattle.demand_3.proofs.CourseLaws.{under-nobody}
 use Rattle.demand_3.specs.Files.{NoWorkAt, FileDemand3}
 use Rattle.demand_3.proofs.FilesLaws.{file-demand-3}
-use Rattle.demand_3.specs.Traces.{InTime, gotIn, TraceDemand3, ListDemand3}
+use Rattle.demand_3.specs.Traces.{InTime, gotIn, TraceDemand3, ListDemand3, OfTheirTraces, OfTheirTraceLists}
 
 -- a stretch of ticks under one deadline ends by it, since its last tick does
 stretch-in-time : {w : Work} → FileDemand3 w → (s : Segment) → Stretch (history w) (w .horizon .tick) s → InTime s
@@ -39,8 +39,8 @@ stretch-in-time {w} ok s one =
     omega (arith, last, one .some)
 
 -- what holds moment by moment holds segment by segment
-pub trace-demand-3 : {w : Work} → FileDemand3 w → TraceDemand3 w
-trace-demand-3 {w} ok =
+by-segments : {w : Work} → FileDemand3 w → TraceDemand3 w
+by-segments {w} ok =
     record {
       in-time =
           every-map (stretch-in-time ok) (trace (history w) (w .horizon .tick)) (trace-stretches (history w) (w .horizon .tick));
@@ -49,7 +49,7 @@ trace-demand-3 {w} ok =
     }
 
 -- and of the segments that are written to a list
-pub written-demand-3 : {w : Work} → TraceDemand3 w → (list : List ℕ)
+written-demand-3 : {w : Work} → TraceDemand3 w → (list : List ℕ)
     → ListDemand3 w (length (trace (history w) (w .horizon .tick))) (written (trace (history w) (w .horizon .tick)) list)
 written-demand-3 {w} ok list =
     record {
@@ -64,6 +64,14 @@ written-demand-3 {w} ok list =
     tr : List Segment
     tr = trace (history w) (w .horizon .tick)
 
+pub trace-demand-3 : OfTheirTraces
+trace-demand-3 file places e = by-segments (file-demand-3 file places e)
+
+pub list-demand-3 : OfTheirTraceLists
+list-demand-3 file list ends e =
+    subst⁻¹ (λ (o : Outcome). ListDemand3 (work file) (o .segments) (o .traceLeft)) (outcome-accepted file list ends e)
+    (written-demand-3 (trace-demand-3 file (length ends) e) list)
+
 -- Of a call of `run`, by its contract, that answers `Accepted`.
 module _ (file list ends after ended : List ℕ) (r : Ran) (said : runSays r after ended ≡ outcome file list ends)
     (answer : r .verdict ≡ Accepted) where
@@ -74,8 +82,8 @@ module _ (file list ends after ended : List ℕ) (r : Ran) (said : runSays r aft
   -- and so does what it leaves in the trace list
   pub ran-list-demand-3 : ListDemand3 (work file) (r .segments) after
   ran-list-demand-3 =
-      subst⁻¹ (λ (o : Outcome). ListDemand3 (work file) (o .segments) (o .traceLeft)) (ran-accepting file list ends after ended r said answer)
-      (written-demand-3 (trace-demand-3 ran-file-demand-3) list)
+      subst⁻¹ (λ (o : Outcome). ListDemand3 (work file) (o .segments) (o .traceLeft)) said
+      (list-demand-3 file list ends (ran-judged file list ends after ended r said answer))
 
   -- A server has no work waiting at a, if the finish list tells of each of its jobs that arrived before a that it has finished by then.
   pub ran-no-work : (i a : ℕ) → a ≤ work file .horizon .tick

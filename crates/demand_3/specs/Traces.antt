@@ -1,16 +1,20 @@
--- Demand 3 for the trace of a work's run, segment by segment: of the whole trace, and of what a lent trace list holds of it. `TracesLaws`
--- proves the first of every work that satisfies demand 3 moment by moment, and the second of every call of `run` that is accepted.
+-- Demand 3 for the trace of a work's run, segment by segment: of the whole trace, and of what a lent trace list holds of it.
 use Prim.Native.Nat.{ℕ, _≤_, _<_}
+use lib.ListN.{length}
 use mathlib.Core.List.{List}
+use mathlib.Core.Path.{_≡_}
 use Rattle.clock.specs.Clock.{moment}
 use Rattle.clock.specs.declared.Moment.{Moment}
 use Rattle.counting.specs.Sum.{sum}
+use Rattle.judgement.specs.Judgement.{judged}
+use Rattle.refusal.specs.Refusals.{accepted}
+use Rattle.run.specs.Outcome.{outcome}
 use Rattle.summary.specs.Summary.{traceOf}
 use Rattle.trace.specs.Segments.{EverySegment}
 use Rattle.trace.specs.Ticks.{endOf, ticksOf, sumOver}
 use Rattle.trace.specs.Written.{fitting, segmentIn}
 use Rattle.trace.specs.declared.Segment.{Segment}
-use Rattle.workfile.specs.Work.{Work}
+use Rattle.workfile.specs.Work.{Work, work}
 use Rattle.demand_3.specs.Got.{isUnder, WithinBandwidth}
 use Rattle.demand_3.specs.Files.{NoWorkAt}
 
@@ -34,3 +38,12 @@ module _ (w : Work) where
     pub in-time : (k : ℕ) → k < fitting segments list → InTime (segmentIn list k)
     pub bandwidth : (i a : ℕ) → i < w .table .count → NoWorkAt w i a → (b : Moment)
         → WithinBandwidth (w .table .booking i) (moment a) b (sum (fitting segments list) (λ k. gotIn i a b (segmentIn list k)))
+
+-- Of the trace of every accepted file; and of the count of segments and the trace list that its run gives. `TracesLaws` proves both.
+abbrev pub OfTheirTraces : Type 0
+OfTheirTraces = (file : List ℕ) (places : ℕ) → judged file places ≡ accepted → TraceDemand3 (work file)
+
+abbrev pub OfTheirTraceLists : Type 0
+OfTheirTraceLists =
+    (file list ends : List ℕ) → judged file (length ends) ≡ accepted
+    → ListDemand3 (work file) (outcome file list ends .segments) (outcome file list ends .traceLeft)
