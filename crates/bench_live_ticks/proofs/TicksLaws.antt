@@ -5,7 +5,7 @@ use mathlib.Core.Path.{_≡_, refl, sym, ap, subst⁻¹}
 use native.Mathlib.Numerals.{add-one}
 use native.Mathlib.Omega.{arith}
 use Rattle.dispatcher.proofs.MoveLaws.{tick-within}
-use Rattle.dispatcher.specs.Moves.{leaving, Moved, Turn, idled, ranOne, tick}
+use Rattle.dispatcher.specs.Moves.{leaving, Answered, Turn, idled, ranOne, tick}
 use Rattle.dispatcher.specs.Within.{Within}
 use Rattle.dispatcher.specs.declared.Dispatcher.{Dispatcher}
 use Rattle.refusal.specs.Refusals.{Said, refused, gave}
@@ -26,7 +26,7 @@ pub tallied-next : (start : Dispatcher) (k : ℕ) (t : Tally) (d e : Dispatcher)
     → having t d ≡ tallied start k → leaving said e ≡ tick d → having (counted t said) e ≡ tallied start (k + 1)
 unfolding tallied
 tallied-next start k t d e said so-far move =
-    rw (add-one k) rw (sym so-far) (ap (λ (m : Moved Turn). having (counted t (m .answer)) (m .dispatcher)) move)
+    rw (add-one k) rw (sym so-far) (ap (λ (m : Answered Turn). having (counted t (m .answer)) (m .dispatcher)) move)
 
 pub tallied-within : {d : Dispatcher} → Within d → (k : ℕ) → Within (tallied d k .dispatcher)
 unfolding tallied

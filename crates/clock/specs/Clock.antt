@@ -18,10 +18,10 @@ later from by = moment (from .tick + by .ticks)
 abbrev pub until : Moment → Moment → Length
 until from to = ticks (to .tick - from .tick)
 
--- the last moment that 64 bits can show
+-- the last moment that 64 bits can hold
 abbrev pub lastTick : ℕ
 lastTick = 18_446_744_073_709_551_615
 
--- what 64 bits show of a moment: the moment itself, up to the last one
-abbrev pub shown : Moment → Moment
-shown m = moment (min (m .tick) lastTick)
+-- what 64 bits hold of a moment: the moment itself, up to the last one
+abbrev pub upToLast : Moment → Moment
+upToLast m = moment (min (m .tick) lastTick)

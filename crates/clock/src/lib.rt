@@ -1,7 +1,7 @@
 // Moments on the clock and lengths of work or time, kept apart: a moment and a length give a moment, two moments give a length,
 // and two moments are never added. Every function is proved for all numbers.
 ghost use mathlib.Core.Path.{_≡_};
-ghost use Rattle.clock.specs.Clock.{later, until, shown};
+ghost use Rattle.clock.specs.Clock.{later, until, upToLast};
 
 // A place on the clock, as a deadline.
 pub struct Moment {
@@ -16,9 +16,9 @@ pub struct Length {
 // The last moment that 64 bits can show. No dispatcher's clock or deadline comes near it.
 pub const LAST_TICK: u64 = 18446744073709551615;
 
-// The moment that lies `by` after `from`, or the last one that can be shown where that is beyond it.
+// The moment that lies `by` after `from`, or the last one that 64 bits can hold where that is beyond it.
 pub fn later(from: Moment, by: Length) -> Moment
-    ensures { λ r. ⌜ r ≡ shown (later from by) ⌝ }
+    ensures { λ r. ⌜ r ≡ upToLast (later from by) ⌝ }
 {
     if by.ticks <= LAST_TICK - from.tick {
         Moment {

@@ -8,7 +8,7 @@ use Rattle.clock.specs.Clock.{until}
 use Rattle.clock.specs.declared.Length.{Length}
 use Rattle.clock.specs.declared.Moment.{Moment}
 use Rattle.dispatcher.specs.Course.{Move, anArrival, aTick, moved, after}
-use Rattle.dispatcher.specs.Moves.{Moved, Turn, ranOne, arrival, arrivalSays, tick, tickSays, turnOf}
+use Rattle.dispatcher.specs.Moves.{Answered, Turn, ranOne, arrival, arrivalSays, tick, tickSays, turnOf}
 use Rattle.dispatcher.specs.Pick.{serverAt}
 use Rattle.dispatcher.specs.declared.Arrived.{Arrived}
 use Rattle.dispatcher.specs.declared.Dispatcher.{Dispatcher}
@@ -38,8 +38,8 @@ live-demand-3 start t demand d led =
       bandwidth = λ i known none b e n to. rw (to .counted) (bounded i known none b (to .moves));
       deadlines-ahead = λ i known. rw (sym (led .to)) at (demand .deadlines-ahead (led .moves) i known);
       ticks-in-time = λ r e i deadline postponed answer.
-          rw (ap (λ (m : Moved Turn). m .dispatcher) e)
-          (in-time i deadline postponed (sym (ap (λ (m : Moved Turn). m .answer) e) ∙ ap turnOf answer));
+          rw (ap (λ (m : Answered Turn). m .dispatcher) e)
+          (in-time i deadline postponed (sym (ap (λ (m : Answered Turn). m .answer) e) ∙ ap turnOf answer));
     }
   where
     bounded : (i : ℕ) → i < t .count → idle (serverAt d i) ≡ true → (b : Moment) (further : List Move)
@@ -54,17 +54,17 @@ live-demand-3 start t demand d led =
 module _ (l : List ℕ) (H : Length) (r : Opened) (e : openingSays r ≡ opening l H) (answer : r .answer ≡ Accepted) where
   opened-judged : tableJudged l H ≡ accepted
   unfolding opening
-  opened-judged = sym (ap (λ (m : Moved (Unit {0})). m .answer) e) ∙ ap onPaper answer
+  opened-judged = sym (ap (λ (m : Answered (Unit {0})). m .answer) e) ∙ ap onPaper answer
 
   pub opened-demand-3 : Demand3 (r .dispatcher) (listed l)
   opened-demand-3 =
-      subst⁻¹ (λ (m : Moved (Unit {0})). Demand3 (m .dispatcher) (listed l)) e (opening-demand-3 l H opened-judged)
+      subst⁻¹ (λ (m : Answered (Unit {0})). Demand3 (m .dispatcher) (listed l)) e (opening-demand-3 l H opened-judged)
 
   -- its numbers lie within their ranges, and its servers are those of the table, also wherever moves lead
   pub opened-standing : {d : Dispatcher} → Led (r .dispatcher) d → Standing (listed l) d
   opened-standing led =
       let sizes = accepted-in-range l H opened-judged in
-      rw (led .to, ap (λ (m : Moved (Unit {0})). m .dispatcher) e, opening-accepted l H opened-judged)
+      rw (led .to, ap (λ (m : Answered (Unit {0})). m .dispatcher) e, opening-accepted l H opened-judged)
       (after-standing
       (start-standing H (listed l) (sizes .from) (sizes .to) (sizes .few) (accepted-admitted l H opened-judged))
       (led .moves))
@@ -83,10 +83,10 @@ module _ {start d : Dispatcher} (led : Led start d) where
       }
 
   pub led-arrived : (r : Arrived) (i : ℕ) (cost : Length) → arrivalSays r ≡ arrival d i cost → Led start (r .dispatcher)
-  led-arrived r i cost e = led-moved (anArrival i cost) (r .dispatcher) (ap (λ (m : Moved (Unit {0})). m .dispatcher) e)
+  led-arrived r i cost e = led-moved (anArrival i cost) (r .dispatcher) (ap (λ (m : Answered (Unit {0})). m .dispatcher) e)
 
   pub led-ticked : (r : Ticked) → tickSays r ≡ tick d → Led start (r .dispatcher)
-  led-ticked r e = led-moved aTick (r .dispatcher) (ap (λ (m : Moved Turn). m .dispatcher) e)
+  led-ticked r e = led-moved aTick (r .dispatcher) (ap (λ (m : Answered Turn). m .dispatcher) e)
 
 -- And how it counts.
 pub counting-none : (i : ℕ) (b : Moment) (d : Dispatcher) → LedCounting i b d d 0
@@ -120,11 +120,11 @@ module _ {i : ℕ} {b : Moment} {start d : Dispatcher} {n : ℕ} (led : LedCount
   pub counting-arrived : (r : Arrived) (j : ℕ) (cost : Length) → arrivalSays r ≡ arrival d j cost → LedCounting i b start (r .dispatcher) n
   counting-arrived r j cost e =
       subst (LedCounting i b start (r .dispatcher)) (add-zero n)
-      (counting-moved (anArrival j cost) (r .dispatcher) (ap (λ (m : Moved (Unit {0})). m .dispatcher) e) 0 (rw (under-nobody i b)))
+      (counting-moved (anArrival j cost) (r .dispatcher) (ap (λ (m : Answered (Unit {0})). m .dispatcher) e) 0 (rw (under-nobody i b)))
 
   -- a tick counts one where it answers server i and a deadline no later than b
   pub counting-ticked : (r : Ticked) → tickSays r ≡ tick d
       → LedCounting i b start (r .dispatcher) (n + cond (isUnder i b (choiceOf (turnOf (r .answer)))) 1 0)
   counting-ticked r e =
-      counting-moved aTick (r .dispatcher) (ap (λ (m : Moved Turn). m .dispatcher) e) _
-      (ap (λ (m : Moved Turn). cond (isUnder i b (choiceOf (m .answer))) 1 0) e)
+      counting-moved aTick (r .dispatcher) (ap (λ (m : Answered Turn). m .dispatcher) e) _
+      (ap (λ (m : Answered Turn). cond (isUnder i b (choiceOf (m .answer))) 1 0) e)

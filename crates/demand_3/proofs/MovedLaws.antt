@@ -14,7 +14,7 @@ use Rattle.clock.specs.Clock.{later, ticks}
 use Rattle.clock.specs.declared.Length.{Length}
 use Rattle.dispatcher.proofs.MoveLaws.{tick-ended, tick-idle, tick-ran}
 use Rattle.dispatcher.proofs.PickLaws.{picked-earliest, picked-none}
-use Rattle.dispatcher.specs.Moves.{Moved, Turn, standing, refusing, tooMuchWork, arrival, idled, ran, tick}
+use Rattle.dispatcher.specs.Moves.{Answered, Turn, standing, refusing, tooMuchWork, arrival, idled, ran, tick}
 use Rattle.dispatcher.specs.Pick.{serverAt, picked, Earliest, NoneWorks}
 use Rattle.dispatcher.specs.Within.{Within}
 use Rattle.dispatcher.specs.declared.Dispatcher.{Dispatcher}
@@ -86,21 +86,21 @@ module _ {d : Dispatcher} (ok : Within d) where
       go false e true q = byServer (picked d) (picked-earliest d (ltb-true _ _ q)) (tick-ran d (eqb-false _ _ e) (ltb-true _ _ q))
       go false e false q = byNobody (picked-none d (ltb-false _ _ q)) (tick-idle d (eqb-false _ _ e) (ltb-false _ _ q))
 
-  clock-by : {m : Moved Turn} → tick d ≡ m → tick d .dispatcher .clock ≡ m .dispatcher .clock
-  clock-by e = ap (λ (m : Moved Turn). m .dispatcher .clock) e
+  clock-by : {m : Answered Turn} → tick d ≡ m → tick d .dispatcher .clock ≡ m .dispatcher .clock
+  clock-by e = ap (λ (m : Answered Turn). m .dispatcher .clock) e
 
-  choice-by : {m : Moved Turn} → tick d ≡ m → choiceOf (tick d .answer) ≡ choiceOf (m .answer)
-  choice-by e = ap (λ (m : Moved Turn). choiceOf (m .answer)) e
+  choice-by : {m : Answered Turn} → tick d ≡ m → choiceOf (tick d .answer) ≡ choiceOf (m .answer)
+  choice-by e = ap (λ (m : Answered Turn). choiceOf (m .answer)) e
 
-  server-by : {m : Moved Turn} → tick d ≡ m → (i : ℕ) → serverAt (tick d .dispatcher) i ≡ serverAt (m .dispatcher) i
-  server-by e i = ap (λ (m : Moved Turn). serverAt (m .dispatcher) i) e
+  server-by : {m : Answered Turn} → tick d ≡ m → (i : ℕ) → serverAt (tick d .dispatcher) i ≡ serverAt (m .dispatcher) i
+  server-by e i = ap (λ (m : Answered Turn). serverAt (m .dispatcher) i) e
 
   pub tick-cases : TickCase d
   unfolding ran
   tick-cases = go way
     where
       go : Way → TickCase d
-      go (byRefusal e) = refusedTick (ap (λ (m : Moved Turn). m .dispatcher) e) (choice-by e)
+      go (byRefusal e) = refusedTick (ap (λ (m : Answered Turn). m .dispatcher) e) (choice-by e)
       go (byNobody idle e) = idleTick idle (clock-by e) (choice-by e)
       go (byServer p first e) = givenTick p first (clock-by e) (choice-by e)
 
@@ -127,9 +127,9 @@ module _ {d : Dispatcher} (ok : Within d) where
   tick-count = go way
     where
       go : Way → tick d .dispatcher .count ≡ d .count
-      go (byRefusal e) = ap (λ (m : Moved Turn). m .dispatcher .count) e
-      go (byNobody idle e) = ap (λ (m : Moved Turn). m .dispatcher .count) e
-      go (byServer p first e) = ap (λ (m : Moved Turn). m .dispatcher .count) e
+      go (byRefusal e) = ap (λ (m : Answered Turn). m .dispatcher .count) e
+      go (byNobody idle e) = ap (λ (m : Answered Turn). m .dispatcher .count) e
+      go (byServer p first e) = ap (λ (m : Answered Turn). m .dispatcher .count) e
 
   pub tick-clock : d .clock .tick ≤ tick d .dispatcher .clock .tick
   tick-clock = go tick-cases

@@ -20,7 +20,7 @@ use Rattle.server.specs.Server.{vacant, idle}
 use Rattle.server.specs.declared.Server.{Server}
 use Rattle.sizes.specs.Sizes.{clockEnd, mostWaiting}
 use Rattle.dispatcher.specs.declared.Dispatcher.{Dispatcher}
-use Rattle.dispatcher.specs.Moves.{Moved, standing, refusing, tooMuchWork, arrival, idled, ran, tick}
+use Rattle.dispatcher.specs.Moves.{Answered, standing, refusing, tooMuchWork, arrival, idled, ran, tick}
 use Rattle.dispatcher.specs.Pick.{serverAt, picked}
 use Rattle.dispatcher.proofs.PickLaws.{picked-earliest}
 use Rattle.dispatcher.specs.Within.{Within}
@@ -134,5 +134,5 @@ tick-within {d} ok = go (eqb (d .clock .tick) clockEnd) refl (ltb (picked d) (d 
     go false e false q = rw (e, q) (later-within ok (before-end ok (eqb-false _ _ e)))
 
 -- what a move hands back, being what its definition gives, is within them
-pub and-within : {A : Type 0} {m n : Moved A} → Within (n .dispatcher) → m ≡ n → (m ≡ n) × Within (m .dispatcher)
-and-within ok e = (e, subst⁻¹ (λ (m : Moved _). Within (m .dispatcher)) e ok)
+pub and-within : {A : Type 0} {m n : Answered A} → Within (n .dispatcher) → m ≡ n → (m ≡ n) × Within (m .dispatcher)
+and-within ok e = (e, subst⁻¹ (λ (m : Answered _). Within (m .dispatcher)) e ok)

@@ -5,15 +5,15 @@ use Rattle.refusal.specs.Refusals.{Said, refused, gave}
 use Rattle.dispatcher.specs.declared.Dispatcher.{Dispatcher}
 use Rattle.dispatcher.specs.declared.TickAnswer.{TickAnswer}
 use Rattle.dispatcher.specs.declared.TickAnswer.the-variants.{Idle, Ran, Refused}
-use Rattle.dispatcher.specs.Moves.{Moved, Turn, idled, ranOne, turnOf}
+use Rattle.dispatcher.specs.Moves.{Answered, Turn, idled, ranOne, turnOf}
 
 -- Of a struct that is made of an answer and a dispatcher: where what answers say tells them, what the struct says tells it.
 pub moved-told : {A B R : Type 0} (says : B → Said A) (told : (v w : B) → says v ≡ says w → v ≡ w) (made : B → Dispatcher → R)
     (v w : B) (d e : Dispatcher)
-    → _≡_ {A = Moved A} (record { answer = says v; dispatcher = d }) (record { answer = says w; dispatcher = e })
+    → _≡_ {A = Answered A} (record { answer = says v; dispatcher = d }) (record { answer = says w; dispatcher = e })
     → made v d ≡ made w e
 moved-told says told made v w d e p =
-    ap₂ made (told v w (ap (λ (m : Moved _). m .answer) p)) (ap (λ (m : Moved _). m .dispatcher) p)
+    ap₂ made (told v w (ap (λ (m : Answered _). m .answer) p)) (ap (λ (m : Answered _). m .dispatcher) p)
 
 -- the answer of a tick
 answerOf : Said Turn → TickAnswer

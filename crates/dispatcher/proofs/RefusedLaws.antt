@@ -8,12 +8,12 @@ use Rattle.clock.specs.declared.Length.{Length}
 use Rattle.refusal.proofs.OnPaperLaws.{refused≢gave}
 use Rattle.sizes.specs.Sizes.{clockEnd}
 use Rattle.dispatcher.specs.declared.Dispatcher.{Dispatcher}
-use Rattle.dispatcher.specs.Moves.{Moved, refusing, tooMuchWork, arrival, ran, tick, LeavesRefused}
+use Rattle.dispatcher.specs.Moves.{Answered, refusing, tooMuchWork, arrival, ran, tick, LeavesRefused}
 use Rattle.dispatcher.specs.Pick.{picked}
 
 module _ (d : Dispatcher) where
   -- where both of two moves do, so does the one that a test chooses
-  either : {A : Type 0} (test : Bool) (m k : Moved A) → LeavesRefused d m → LeavesRefused d k → LeavesRefused d (cond test m k)
+  either : {A : Type 0} (test : Bool) (m k : Answered A) → LeavesRefused d m → LeavesRefused d k → LeavesRefused d (cond test m k)
   either true m k leaves-m leaves-k = leaves-m
   either false m k leaves-m leaves-k = leaves-k
 

@@ -20,12 +20,12 @@ use Rattle.dispatcher.specs.declared.TickAnswer.the-variants.{Idle, Ran,
 use Rattle.dispatcher.specs.declared.Ticked.{Ticked}
 use Rattle.dispatcher.specs.Pick.{serverAt, picked}
 
--- what a move says, and the dispatcher that it leaves
-pub record Moved (A : Type 0) : Type 0 where
+-- what is said, and the dispatcher with it: a move leaves one, and an opening hands one back
+pub record Answered (A : Type 0) : Type 0 where
   pub answer : Said A
   pub dispatcher : Dispatcher
 
-abbrev pub leaving : {A : Type 0} → Said A → Dispatcher → Moved A
+abbrev pub leaving : {A : Type 0} → Said A → Dispatcher → Answered A
 leaving said d = record { answer = said; dispatcher = d }
 
 -- the dispatcher at moment t with these servers: no move alters H and n
@@ -33,7 +33,7 @@ abbrev pub standing : Dispatcher → Moment → List Server → Dispatcher
 standing d t servers = record { frame = d .frame; count = d .count; clock = t; servers = servers }
 
 -- a refusal "changes no dispatcher"; its place is 0 in both moves
-abbrev pub refusing : {A : Type 0} → Dispatcher → ℕ → Moved A
+abbrev pub refusing : {A : Type 0} → Dispatcher → ℕ → Answered A
 refusing d number = leaving (refused number 0) d
 
 -- An arrival.
@@ -43,14 +43,14 @@ abbrev pub tooMuchWork : Dispatcher → ℕ → Length → Bool
 tooMuchWork d i cost = ltb mostWaiting (serverAt d i .waiting .ticks + cost .ticks)
 
 -- "A live arrival gives 6 (place 0) or 11, in that order." Otherwise it is accepted, and its server goes through step 1.
-unfoldable pub arrival : Dispatcher → ℕ → Length → Moved (Unit {0})
+unfoldable pub arrival : Dispatcher → ℕ → Length → Answered (Unit {0})
 arrival d i cost =
     cond (faultyArrival (d .count) i cost) (refusing d 6)
     (cond (tooMuchWork d i cost) (refusing d 11)
     (leaving accepted (standing d (d .clock) (set (d .servers) i (arrived (serverAt d i) (d .clock) cost)))))
 
 -- what the struct that an arrival answers says
-abbrev pub arrivalSays : Arrived → Moved (Unit {0})
+abbrev pub arrivalSays : Arrived → Answered (Unit {0})
 arrivalSays r = leaving (onPaper (r .answer)) (r .dispatcher)
 
 -- A tick.
@@ -61,14 +61,14 @@ pub data Turn : Type 0 where
   ranOne : (server : ℕ) (deadline : Moment) (postponed : Bool) → Turn
 
 -- server i runs: step 3 at it, then step 4, "The clock is t + 1". The deadline is "the one in force before step 3".
-unfoldable pub ran : Dispatcher → ℕ → Moved Turn
+unfoldable pub ran : Dispatcher → ℕ → Answered Turn
 ran d i =
     leaving (gave (ranOne i (serverAt d i .deadline) (spendsLast (serverAt d i))))
     (standing d (later (d .clock) (ticks 1)) (set (d .servers) i (served (serverAt d i))))
 
 -- 10: "a live tick when the clock stands at 2,419,200". Otherwise the server that step 2 picks runs; "If there is none, the tick is
 -- idle", and only step 4 is left.
-unfoldable pub tick : Dispatcher → Moved Turn
+unfoldable pub tick : Dispatcher → Answered Turn
 tick d =
     cond (eqb (d .clock .tick) clockEnd) (refusing d 10)
     (cond (ltb (picked d) (d .count)) (ran d (picked d))
@@ -81,9 +81,9 @@ turnOf (Ran i deadline postponed) = gave (ranOne i deadline postponed)
 turnOf (Refused r) = refused (numberOf r) (placeOf r)
 
 -- what the struct that a tick answers says
-abbrev pub tickSays : Ticked → Moved Turn
+abbrev pub tickSays : Ticked → Answered Turn
 tickSays r = leaving (turnOf (r .answer)) (r .dispatcher)
 
 -- a refused move leaves the dispatcher as it was
-abbrev pub LeavesRefused : {A : Type 0} → Dispatcher → Moved A → Type 0
+abbrev pub LeavesRefused : {A : Type 0} → Dispatcher → Answered A → Type 0
 LeavesRefused d m = (number place : ℕ) → m .answer ≡ refused number place → m .dispatcher ≡ d

@@ -5,7 +5,7 @@ use mathlib.Core.Path.{_≡_, refl, sym, _∙_, ap, ap₂, subst}
 use Rattle.clock.specs.declared.Length.{Length}
 use Rattle.dispatcher.proofs.MoveOnPaperLaws.{moved-told, turn-told}
 use Rattle.dispatcher.specs.Course.{Move, anArrival, aTick, moved, after}
-use Rattle.dispatcher.specs.Moves.{Moved, leaving, Turn, turnOf}
+use Rattle.dispatcher.specs.Moves.{Answered, leaving, Turn, turnOf}
 use Rattle.dispatcher.specs.Within.{Within}
 use Rattle.dispatcher.specs.declared.Dispatcher.{Dispatcher}
 use Rattle.dispatcher.specs.declared.TickAnswer.{TickAnswer}
@@ -57,8 +57,8 @@ two-forms (m ∷ moves) d a b end stop ok p q =
 
 -- A move leads where the definitions lead;
 move-leads : (d : Dispatcher) (m : Move) (a : AnswerTo m) (e : Dispatcher) → Within d → MoveGives d m a e → (e ≡ moved d m) × Within e
-move-leads d (anArrival server cost) a e ok p = (ap (λ (x : Moved (Unit {0})). x .dispatcher) (p ok .0), p ok .1)
-move-leads d aTick a e ok p = (ap (λ (x : Moved Turn). x .dispatcher) (p ok .0), p ok .1)
+move-leads d (anArrival server cost) a e ok p = (ap (λ (x : Answered (Unit {0})). x .dispatcher) (p ok .0), p ok .1)
+move-leads d aTick a e ok p = (ap (λ (x : Answered Turn). x .dispatcher) (p ok .0), p ok .1)
 
 -- and so does a course of moves: what is proved of a course, as demand 3 is, holds of both forms
 pub played-after : (moves : List Move) (d : Dispatcher) (a : Answers moves) (end : Dispatcher) → Within d

@@ -13,7 +13,7 @@ use native.Mathlib.Omega.{arith}
 use Rattle.clock.specs.Clock.{later, moment, ticks}
 use Rattle.dispatcher.proofs.MoveLaws.{tick-ran, tick-idle}
 use Rattle.dispatcher.proofs.PickLaws.{earliest-picked, none-picked}
-use Rattle.dispatcher.specs.Moves.{Moved, leaving, standing, Turn, idled, ranOne, ran, tick}
+use Rattle.dispatcher.specs.Moves.{Answered, leaving, standing, Turn, idled, ranOne, ran, tick}
 use Rattle.dispatcher.specs.Pick.{serverAt, picked, Earliest, NoneWorks}
 use Rattle.dispatcher.specs.Within.{Within}
 use Rattle.dispatcher.specs.declared.Dispatcher.{Dispatcher}
@@ -181,7 +181,7 @@ module _ (w : Work) (t : ℕ) (f : ℕ → Dispatcher) (answer : ℕ → Said Tu
   at-next q b e =
       ap (atMoment w) (add-suc t q)
       ∙ ap (λ (x : Dispatcher). tick x .dispatcher) e
-      ∙ ap (λ (m : Moved Turn). m .dispatcher) (step q b)
+      ∙ ap (λ (m : Answered Turn). m .dispatcher) (step q b)
 
   -- a run that ticks along f stays there
   pub ready-on : (q : ℕ) → q < k → ready w (t + q) ≡ f q
@@ -196,7 +196,7 @@ module _ (w : Work) (t : ℕ) (f : ℕ → Dispatcher) (answer : ℕ → Said Tu
 
   pub turn-on : (q : ℕ) → q < k → turn w (t + q) ≡ answer q
   unfolding turn
-  turn-on q b = ap (λ (x : Dispatcher). tick x .answer) (ready-on q b) ∙ ap (λ (m : Moved Turn). m .answer) (step q b)
+  turn-on q b = ap (λ (x : Dispatcher). tick x .answer) (ready-on q b) ∙ ap (λ (m : Answered Turn). m .answer) (step q b)
 
 -- "In one go": server i, picked at t, for as many ticks as its budget and its work allow and no arrival comes.
 module _ (w : Work) (t i k : ℕ) (ok : Within (ready w t)) (clock : ready w t .clock .tick ≡ t)

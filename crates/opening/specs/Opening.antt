@@ -9,7 +9,7 @@ use Rattle.booking.specs.Admission.{Table, admission}
 use Rattle.booking.specs.Share.{booked}
 use Rattle.clock.specs.Clock.{ticks}
 use Rattle.clock.specs.declared.Length.{Length}
-use Rattle.dispatcher.specs.Moves.{Moved, leaving}
+use Rattle.dispatcher.specs.Moves.{Answered, leaving}
 use Rattle.dispatcher.specs.Start.{atStart}
 use Rattle.dispatcher.specs.declared.Dispatcher.{Dispatcher}
 use Rattle.refusal.specs.Refusals.{Said, refused, gave, onPaper}
@@ -39,9 +39,9 @@ handedBack (refused number place) d = noServers
 handedBack (gave u) d = d
 
 -- opening: the judgement, and the dispatcher of the table at its start where it is accepted
-unfoldable pub opening : List ℕ → Length → Moved (Unit {0})
+unfoldable pub opening : List ℕ → Length → Answered (Unit {0})
 opening l H = leaving (tableJudged l H) (handedBack (tableJudged l H) (atStart H (listed l)))
 
 -- what the struct that opening answers says
-abbrev pub openingSays : Opened → Moved (Unit {0})
+abbrev pub openingSays : Opened → Answered (Unit {0})
 openingSays r = leaving (onPaper (r .answer)) (r .dispatcher)

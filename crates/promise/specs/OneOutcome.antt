@@ -9,7 +9,7 @@ abbrev pub OneOutcome {ℓ κ λ′ μ} : {L : Type ℓ} {A : L → Type κ} {R 
 OneOutcome {L = L} {A = A} {R = R} {E = E} promise =
     (l : L) (a : A l) (x y : R l) (at-x at-y : E l) → promise l a x at-x → promise l a y at-y → x ≡ y
 
--- Of a function that is lent lists to alter, where `left` reads all of them at exit: the lists agree too.
+-- Of a function that is lent lists or a dispatcher to alter, where `left` reads all of them at exit: these agree too.
 abbrev pub OneOutcomeLent {ℓ κ λ′ μ} : {L : Type ℓ} {A : L → Type κ} {R : L → Type λ′} {E : L → Type μ} {X : Type 0}
     → ((l : L) → A l → R l → E l → Type 0) → ((l : L) → E l → X) → Type (ℓ ⊔ κ ⊔ λ′ ⊔ μ)
 OneOutcomeLent {L = L} {A = A} {R = R} {E = E} promise left =

@@ -6,24 +6,24 @@ use Rattle.refusal.specs.declared.Verdict.{Verdict}
 use Rattle.refusal.specs.declared.Verdict.the-variants.{Accepted, Refused}
 
 -- the table, row by row: "No." and "Place"
-abbrev pub inTable : Refusal → ℕ × ℕ
-inTable FileLength = (1, 0)
-inTable Sizes = (2, 0)
-inTable Layout = (3, 0)
-inTable (FaultyServer k) = (4, k)
-inTable Shares = (5, 0)
-inTable (FaultyArrival k) = (6, k)
-inTable (BackwardArrival k) = (7, k)
-inTable (LateArrival k) = (8, k)
-inTable FinishList = (9, 0)
-inTable ClockEnd = (10, 0)
-inTable WaitingWork = (11, 0)
+abbrev pub rowOf : Refusal → ℕ × ℕ
+rowOf FileLength = (1, 0)
+rowOf Sizes = (2, 0)
+rowOf Layout = (3, 0)
+rowOf (FaultyServer k) = (4, k)
+rowOf Shares = (5, 0)
+rowOf (FaultyArrival k) = (6, k)
+rowOf (BackwardArrival k) = (7, k)
+rowOf (LateArrival k) = (8, k)
+rowOf FinishList = (9, 0)
+rowOf ClockEnd = (10, 0)
+rowOf WaitingWork = (11, 0)
 
 abbrev pub numberOf : Refusal → ℕ
-numberOf r = inTable r .0
+numberOf r = rowOf r .0
 
 abbrev pub placeOf : Refusal → ℕ
-placeOf r = inTable r .1
+placeOf r = rowOf r .1
 
 -- what the document says of an outcome: it was refused with a number and a place, or it gave a value
 pub data Said (A : Type 0) : Type 0 where

@@ -1,6 +1,7 @@
 -- What steps 1 and 3 of a moment make of any server, so that the code of both has a promise for all numbers. They are document 01's steps
 -- (`Rattle.server.specs.Moves`), but where something is beyond its range or the work is too much in step 1, and where the server is unserved
--- in step 3: there it stays as it is. No rule stands behind that, and a dispatcher takes no such step (`arrival-ranged`, `tick-ranged`).
+-- in step 3: there it stays as it is. No rule stands behind that, and a dispatcher takes no such step (`StepLaws`: `arrival-ranged`,
+-- `tick-ranged`).
 use Prim.Native.Nat.{ℕ, _+_, _*_}
 use lib.Dec.{ltb}
 use mathlib.Core.Bool.{Bool, cond, _||_}
@@ -12,8 +13,7 @@ use Rattle.server.specs.Server.{idle}
 use Rattle.server.specs.declared.Server.{Server}
 use Rattle.sizes.specs.Sizes.{clockEnd, mostFrame, mostWaiting}
 
--- no deadline of a dispatcher is later: the first lies at most T ahead, each of at most 2,419,200 ticks postpones by T, and T is at most
--- 604,800
+-- no deadline of a dispatcher is later: it is at most T × (clock + 1) (`Ranged`), T at most 604,800 and the clock at most 2,419,200
 abbrev pub lastDeadline : ℕ
 lastDeadline = mostFrame * (clockEnd + 1)
 

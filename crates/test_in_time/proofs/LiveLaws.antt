@@ -12,7 +12,7 @@ use Rattle.demand_3.proofs.LiveLaws.{opened-demand-3, opened-standing, live-dem
 use Rattle.demand_3.proofs.StandingLaws.{Standing, arrival-standing, tick-standing}
 use Rattle.demand_3.specs.Got.{WithinBandwidth}
 use Rattle.demand_3.specs.Live.{LiveDemand3}
-use Rattle.dispatcher.specs.Moves.{Moved, Turn, arrival, arrivalSays, tick, tickSays}
+use Rattle.dispatcher.specs.Moves.{Answered, Turn, arrival, arrivalSays, tick, tickSays}
 use Rattle.dispatcher.specs.Pick.{serverAt}
 use Rattle.dispatcher.specs.declared.Arrived.{Arrived}
 use Rattle.dispatcher.specs.declared.Dispatcher.{Dispatcher}
@@ -44,7 +44,7 @@ module _ {d : Dispatcher} (live : Live d) where
         table = live .table;
         demand = live .demand;
         led = led-arrived (live .led) r i cost e;
-        standing = subst⁻¹ (λ (m : Moved (Unit {0})). Standing (live .table) (m .dispatcher)) e (arrival-standing (live .standing) i cost);
+        standing = subst⁻¹ (λ (m : Answered (Unit {0})). Standing (live .table) (m .dispatcher)) e (arrival-standing (live .standing) i cost);
       }
 
   pub live-ticked : (r : Ticked) → tickSays r ≡ tick d → Live (r .dispatcher)
@@ -54,7 +54,7 @@ module _ {d : Dispatcher} (live : Live d) where
         table = live .table;
         demand = live .demand;
         led = led-ticked (live .led) r e;
-        standing = subst⁻¹ (λ (m : Moved Turn). Standing (live .table) (m .dispatcher)) e (tick-standing (live .standing));
+        standing = subst⁻¹ (λ (m : Answered Turn). Standing (live .table) (m .dispatcher)) e (tick-standing (live .standing));
       }
 
   pub live-demand : LiveDemand3 (live .table) d

@@ -9,8 +9,8 @@ use mathlib.Core.Path.{_≡_, sym, _∙_, ap}
 use native.Mathlib.Decide.{decLt, ℕ-discrete}
 use native.Mathlib.Nat.{div-mul-le-self, div-le-self, mul-le-mul-right, mul-le-mul}
 use native.Mathlib.Omega.{arith}
-use Rattle.clock.proofs.ClockLaws.{shown-whole}
-use Rattle.clock.specs.Clock.{moment, ticks, later, shown}
+use Rattle.clock.proofs.ClockLaws.{up-to-last-whole}
+use Rattle.clock.specs.Clock.{moment, ticks, later, upToLast}
 use Rattle.clock.specs.declared.Moment.{Moment}
 use Rattle.server.specs.declared.Server.{Server}
 use Rattle.sizes.specs.Sizes.{clockEnd, mostFrame, mostServers}
@@ -57,7 +57,7 @@ further-some keys i s spare {rival} {wins} {fits} {r} able full least below enou
       wins = λ n j l b other. omega (arith, below n (omega arith), least .least j b other);
     }
 
--- A server within its ranges, after n budgets: its deadline can be shown.
+-- A server within its ranges, after n budgets: 64 bits hold its deadline.
 pub periods-few : (s : Server) (n : ℕ) → Able s → n ≤ clockEnd → n * s .period .ticks ≤ clockEnd * mostFrame
 periods-few s n able few = mul-le-mul few (able .period)
 
@@ -66,7 +66,7 @@ pub budgets-as : (s : Server) (n : ℕ) → Able s → n ≤ clockEnd → budget
       budget = s .budget;
       period = s .period;
       remaining = s .remaining;
-      deadline = shown (later (s .deadline) (ticks (n * s .period .ticks)));
+      deadline = upToLast (later (s .deadline) (ticks (n * s .period .ticks)));
       waiting = ticks (s .waiting .ticks - n * s .budget .ticks);
     }
 unfolding budgetsOn
@@ -80,15 +80,15 @@ budgets-as s n able few =
       waiting = ticks (s .waiting .ticks - n * s .budget .ticks);
     })
     (sym
-    (shown-whole (later (s .deadline) (ticks (n * s .period .ticks)))
+    (up-to-last-whole (later (s .deadline) (ticks (n * s .period .ticks)))
     (omega (arith, able .deadline, periods-few s n able few))))
 
 -- one budget more puts the deadline one period later
 pub deadline-more : (s : Server) (n : ℕ) → Able s → n < clockEnd
-    → shown (later (budgetsOn s n .deadline) (s .period)) ≡ budgetsOn s (suc n) .deadline
+    → upToLast (later (budgetsOn s n .deadline) (s .period)) ≡ budgetsOn s (suc n) .deadline
 unfolding budgetsOn
 deadline-more s n able few =
-    shown-whole (moment (s .deadline .tick + n * s .period .ticks + s .period .ticks))
+    up-to-last-whole (moment (s .deadline .tick + n * s .period .ticks + s .period .ticks))
     (omega (arith, able .deadline, periods-few s (suc n) able (omega arith)))
     ∙ ap moment (omega arith)
 

@@ -6,7 +6,7 @@ use native.Mathlib.Decide.{decLt}
 use native.Mathlib.Omega.{arith}
 use Rattle.clock.specs.declared.Moment.{Moment}
 use Rattle.dispatcher.proofs.MoveLaws.{tick-ran, tick-idle}
-use Rattle.dispatcher.specs.Moves.{Moved, Turn, arrival, tick, ran}
+use Rattle.dispatcher.specs.Moves.{Answered, Turn, arrival, tick, ran}
 use Rattle.dispatcher.specs.Pick.{picked}
 use Rattle.dispatcher.specs.declared.Dispatcher.{Dispatcher}
 use Rattle.judgement.proofs.FitLaws.{Fit, in-order-all, judged-fit}
@@ -26,8 +26,8 @@ unfolding ran
 tick-given d early number place e = go (decLt (picked d) (d .count))
   where
     go : Dec (picked d < d .count) → ⊥
-    go (yes some) = refused≢gave (sym e ∙ ap (λ (m : Moved Turn). m .answer) (tick-ran d early some))
-    go (no none) = refused≢gave (sym e ∙ ap (λ (m : Moved Turn). m .answer) (tick-idle d early (omega arith)))
+    go (yes some) = refused≢gave (sym e ∙ ap (λ (m : Answered Turn). m .answer) (tick-ran d early some))
+    go (no none) = refused≢gave (sym e ∙ ap (λ (m : Answered Turn). m .answer) (tick-idle d early (omega arith)))
 
 module _ {w : Work} {places : ℕ} (fit : Fit w places) where
   -- the arrivals of a moment up to arrival k, one after the other
@@ -56,7 +56,7 @@ module _ {w : Work} {places : ℕ} (fit : Fit w places) where
     arrival-taken : arrival (taken w k (atMoment w t)) (w .arrival k .server) (w .arrival k .cost) .answer ≡ accepted
     arrival-taken =
         ap (λ (x : Dispatcher). arrival x (w .arrival k .server) (w .arrival k .cost) .answer) (sym (stands-at .1 .taken-is))
-        ∙ ap (λ (m : Moved (Unit {0})). m .answer) (accepted-whole fit (stands-at .1) end known now)
+        ∙ ap (λ (m : Answered (Unit {0})). m .answer) (accepted-whole fit (stands-at .1) end known now)
 
   turn-given : (t : ℕ) → t < w .horizon .tick → (number place : ℕ) → turn w t ≡ refused number place → ⊥
   unfolding turn ready

@@ -17,7 +17,7 @@ use Rattle.counting.proofs.PlacesLaws.{getD-places, length-places}
 use Rattle.counting.proofs.SumLaws.{sum-le}
 use Rattle.counting.specs.Places.{places}
 use Rattle.dispatcher.proofs.MoveLaws.{arrival-whole}
-use Rattle.dispatcher.specs.Moves.{Moved, leaving, standing, arrival}
+use Rattle.dispatcher.specs.Moves.{Answered, leaving, standing, arrival}
 use Rattle.dispatcher.specs.Pick.{serverAt}
 use Rattle.dispatcher.specs.Start.{startAt, atStart}
 use Rattle.dispatcher.specs.Within.{Within}
@@ -119,7 +119,7 @@ module _ {w : Work} {places : ℕ} (fit : Fit w places) where
 
       pub accepted-as : arrival d (w .arrival j .server) (w .arrival j .cost) .dispatcher
           ≡ standing d (d .clock) (set (d .servers) (w .arrival j .server) (arrived (serverAt d (w .arrival j .server)) (d .clock) (w .arrival j .cost)))
-      accepted-as = ap (λ (m : Moved (Unit {0})). m .dispatcher) accepted-whole
+      accepted-as = ap (λ (m : Answered (Unit {0})). m .dispatcher) accepted-whole
 
       arrival-other : (k : ℕ) → (k ≡ w .arrival j .server → ⊥)
           → serverAt (arrival d (w .arrival j .server) (w .arrival j .cost) .dispatcher) k ≡ serverAt d k

@@ -2,7 +2,7 @@
 use borrow.Author.Needs.{needs}
 use mathlib.Core.Path.{_∙_}
 use native.Mathlib.Omega.{arith}
-use Rattle.clock.proofs.ClockLaws.{shown-whole}
+use Rattle.clock.proofs.ClockLaws.{up-to-last-whole}
 use Rattle.dispatcher.proofs.pass.Statement.{statement}
 use Rattle.dispatcher.proofs.pass.Tie as tie
 
@@ -10,7 +10,7 @@ later-requires : tie.Need-later-requires
 later-requires c κs = search needs
 
 returns : tie.Need-returns
-returns c = rw (c .later .ensures ∙ shown-whole _ (omega arith))
+returns c = rw (c .later .ensures ∙ up-to-last-whole _ (omega arith))
 
 pub pass-spec : {M : Type 1} → statement M
 pass-spec = tie.close (tie.spec later-requires returns)

@@ -5,7 +5,7 @@ use mathlib.Core.Bool.{false}
 use mathlib.Core.Path.{_≡_, sym, _∙_, ap}
 use native.Mathlib.Nat.{pos-of-ne-zero}
 use native.Mathlib.Omega.{arith}
-use Rattle.clock.proofs.ClockLaws.{shown-whole}
+use Rattle.clock.proofs.ClockLaws.{up-to-last-whole}
 use Rattle.clock.specs.declared.Moment.{Moment}
 use Rattle.server.proofs.MoveLaws.{served-last, served-more}
 use Rattle.server.specs.Moves.{oneTickLess}
@@ -44,7 +44,7 @@ returns-2 : tie.Need-returns-2
 returns-2 c =
     let past = c .before .before .before .before .before .before in
     c .refill .ensures
-    ∙ ap (λ (d : Moment). holding (oneTickLess (past .before .before .args .s)) (past .before .before .args .s .budget) d (oneTickLess (past .before .before .args .s) .waiting)) (c .before .later .ensures ∙ shown-whole _ (ready past .shows))
+    ∙ ap (λ (d : Moment). holding (oneTickLess (past .before .before .args .s)) (past .before .before .args .s .budget) d (oneTickLess (past .before .before .args .s) .waiting)) (c .before .later .ensures ∙ up-to-last-whole _ (ready past .shows))
     ∙ sym (served-last _ (c .before .before .if2 .taken))
     ∙ sym (tick-served _ (served-then past))
 

@@ -12,7 +12,7 @@ use Rattle.books.proofs.budgets.BudgetLaws.{deadline-more, on-begun, on-count, 
 use Rattle.books.proofs.budgets.Budgets.{budgetsOn, currentOn, traceOn, interruptedOn, Able, NoneAbove}
 use Rattle.books.proofs.stretches.Segmented.{withWaits}
 use Rattle.books.proofs.stretches.Turns.{currentThen, traceThen, interruptedThen}
-use Rattle.clock.specs.Clock.{lastTick, moment, later, shown}
+use Rattle.clock.specs.Clock.{lastTick, moment, later, upToLast}
 use Rattle.clock.specs.declared.Moment.{Moment}
 use Rattle.server.specs.declared.Server.{Server}
 use Rattle.sizes.specs.Sizes.{clockEnd}
@@ -75,7 +75,7 @@ module _ {list₀ interrupted₀ : List ℕ} {c : Current} {t i : ℕ} {s : Serv
 
       passed-more : {turned : Current} {list' interrupted' : List ℕ} {deadline' : Moment} → turned ≡ currentThen current at i deadline
           → list' ≡ traceThen current at i deadline list → interrupted' ≡ interruptedThen current i deadline interrupted
-          → deadline' ≡ shown (later deadline (s .period)) → length list' ≡ length list
+          → deadline' ≡ upToLast (later deadline (s .period)) → length list' ≡ length list
           → Passed list₀ interrupted₀ c t i s n list' interrupted' (withWaits turned (waiting - s .budget .ticks)) (at + s .budget .ticks) deadline'
           (waiting - s .budget .ticks)
           (suc k)
@@ -98,7 +98,7 @@ module _ {list₀ interrupted₀ : List ℕ} {c : Current} {t i : ℕ} {s : Serv
                 ∙ ap (λ (d : Moment). interruptedThen (currentOn c t i s k) i d (interruptedOn c t i s k interrupted₀)) (p .deadline-is);
             at-is = omega (arith, p .at-is);
             deadline-is =
-                shows ∙ ap (λ (d : Moment). shown (later d (s .period))) (p .deadline-is) ∙ deadline-more s k able (omega (arith, few));
+                shows ∙ ap (λ (d : Moment). upToLast (later d (s .period))) (p .deadline-is) ∙ deadline-more s k able (omega (arith, few));
             waiting-is = left;
             within = omega arith;
             places = kept ∙ p .places;

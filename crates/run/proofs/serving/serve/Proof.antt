@@ -2,7 +2,7 @@
 use borrow.Author.Needs.{needs}
 use native.Mathlib.Omega.{arith}
 use Rattle.clock.specs.Clock.{later}
-use Rattle.clock.proofs.ClockLaws.{shown-whole}
+use Rattle.clock.proofs.ClockLaws.{up-to-last-whole}
 use Rattle.moments.proofs.OneGoLaws.{served-less, served-spent}
 use Rattle.run.proofs.serving.serve.Statement.{statement}
 use Rattle.run.proofs.serving.serve.Tie as tie
@@ -23,7 +23,7 @@ returns c =
     rw (
       served-spent s (start .args .k) (omega (arith, c .if1 .taken)),
       c .before .before .later .ensures,
-      shown-whole (later (s .deadline) (s .period)) (start .pre .1 .1),
+      up-to-last-whole (later (s .deadline) (s .period)) (start .pre .1 .1),
     )
 
 returns-2 : tie.Need-returns-2

@@ -3,7 +3,7 @@
 use borrow.Author.Needs.{needs}
 use mathlib.Core.Path.{sym, _∙_, ap}
 use native.Mathlib.Omega.{arith}
-use Rattle.clock.proofs.ClockLaws.{shown-whole}
+use Rattle.clock.proofs.ClockLaws.{up-to-last-whole}
 use Rattle.clock.specs.declared.Moment.{Moment}
 use Rattle.server.proofs.MoveLaws.{arrived-busy, arrived-renewed, arrived-kept}
 use Rattle.server.specs.Moves.{withWork}
@@ -32,7 +32,7 @@ returns-2 c =
     let start = refilling .before .before .before .before in
     refilling .refill .ensures
     ∙ ap (λ (d : Moment). holding (start .args .s) (start .args .s .budget) d (withWork (start .args .s) (start .args .cost) .waiting))
-    (refilling .before .later .ensures ∙ shown-whole _ (omega (arith, start .pre .0 .period, start .pre .0 .moment)))
+    (refilling .before .later .ensures ∙ up-to-last-whole _ (omega (arith, start .pre .0 .period, start .pre .0 .moment)))
     ∙ sym (arrived-renewed _ _ _ (c .before .before .if1 .left) (sym (c .before .is-renewed .ensures) ∙ c .if2 .taken))
 
 returns-3 : tie.Need-returns-3

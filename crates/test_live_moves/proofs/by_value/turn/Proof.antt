@@ -2,7 +2,7 @@
 -- back.
 use borrow.Author.Needs.{needs}
 use mathlib.Core.Path.{ap}
-use Rattle.dispatcher.specs.Moves.{Moved, Turn}
+use Rattle.dispatcher.specs.Moves.{Answered, Turn}
 use Rattle.test_live_moves.proofs.by_value.turn.Statement.{statement}
 use Rattle.test_live_moves.proofs.by_value.turn.Tie as tie
 
@@ -27,12 +27,12 @@ arrival-requires-2 c κs = search needs
 returns : tie.Need-returns
 returns c =
     let made = c .before .before .tick .ensures in
-    rw (c .before .before .before .before .m .given .1) (ap (λ (m : Moved Turn). m .dispatcher) (made .0), made .1)
+    rw (c .before .before .before .before .m .given .1) (ap (λ (m : Answered Turn). m .dispatcher) (made .0), made .1)
 
 returns-2 : tie.Need-returns-2
 returns-2 c =
     let made = c .before .before .arrival .ensures in
-    rw (c .before .before .before .before .m2 .given .1) (ap (λ (m : Moved (Unit {0})). m .dispatcher) (made .0), made .1)
+    rw (c .before .before .before .before .m2 .given .1) (ap (λ (m : Answered (Unit {0})). m .dispatcher) (made .0), made .1)
 
 pub turn-spec : {M : Type 1} → statement M
 turn-spec =

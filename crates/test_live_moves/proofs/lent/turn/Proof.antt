@@ -273,7 +273,7 @@ module _ {M : Type 1} (𝓤 : URA M) (H : Heap 𝓤) (A : Atoms 𝓤) (W : Given
                 (id⊢ 𝓤 _) (λ typed.
                 land-last ! (from ! (stop !)) (init ! 10 refl typed) $ exec ! C Λ E mir.t-3 (atRet E (Post (Tick w))) $
                 forget ! 6 refl $ forget ! 10 refl $ forget ! 11 refl $ forget ! 12 refl $
-                leaves (Tick w) is d (ap (λ (m : moves.Moved moves.Turn). m .dispatcher) e) within))))),
+                leaves (Tick w) is d (ap (λ (m : moves.Answered moves.Turn). m .dispatcher) e) within))))),
             ((λ e. absurd (omega (arith, e))), tt),
           )
 
@@ -313,7 +313,7 @@ module _ {M : Type 1} (𝓤 : URA M) (H : Heap 𝓤) (A : Atoms 𝓤) (W : Given
                   (h .clock, (s, (c, (r, (w, tt))))) tt) u tt (id⊢ 𝓤 _) (λ typed.
                   land-last ! (from ! (stop !)) (init ! 13 refl typed) $ exec ! C Λ E mir.t-3 (atRet E (Post (Arrival s c w))) $
                   forget ! 7 refl $ forget ! 8 refl $ forget ! 9 refl $ forget ! 13 refl $ forget ! 14 refl $ forget ! 15 refl $
-                  leaves (Arrival s c w) is d (ap (λ (m : moves.Moved (Unit {0})). m .dispatcher) e) within))))),
+                  leaves (Arrival s c w) is d (ap (λ (m : moves.Answered (Unit {0})). m .dispatcher) e) within))))),
               tt,
             ),
           )
