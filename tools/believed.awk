@@ -6,7 +6,8 @@
 # A thing (a definition, a law, a function, a struct or enum) goes by its place, FILE:LINE, its id:
 #   kind[id], name[id], home[id], line_of[id], size[id]   what it is and is called, its file, its line, its lines of code
 #   given[id], piece[id, 1 .. pieces[id]]   the parameters of the modules around it; its text, cut where a scope ends
-# A name in a file goes by (file, name): own is what the file declares; brought and alias are what its `use` lines bring.
+# A name in a file goes by (file, name): own is what the file declares; brought and alias are what its `use` lines bring of the
+# crates here, and kit what they bring of the toolchain's.
 
 # A sentence for each thing that is wrong.
 function problem(words) {
@@ -46,25 +47,27 @@ function thing(file, at, what, called,    id) {
 
 function add_piece(id, how, text) { piece_kind[id, ++pieces[id]] = how; piece[id, pieces[id]] = text }
 
-# `use M.{a, b as c}`, `use M as x` or `use M`. What is cited is kept as `M.{a`, and a whole module as `M.{`.
-function bring(file, text,    at, module, list, n, k, word, m) {
+# `use M.{a, b as c, N.d}`, `use M as x` or `use M`. What is cited is kept as `M.{a`, and a whole module as `M.{`.
+function bring(file, text,    at, module, here, list, n, k, word, m, called) {
     sub(/^(pub )?use +/, "", text)
     sub(/^package[.]/, "", text)
     module = text
     sub(/[. ].*/, "", module)
     if (((file, module) in alias) || text ~ /[.][*]$/) problem(file ": a `use` line that this cannot follow: " text)
-    if (!is_here(module)) return
+    here = is_here(module)
     at = index(text, ".{")
     module = at ? substr(text, 1, at - 1) : text
     if (at) {
         text = substr(text, at + 2)
+        if (text ~ /[{]/) problem(file ": a `use` line that this cannot follow: " module ".{" text)
         sub(/[}].*/, "", text)
         n = split(text, list, ",")
         for (k = 1; k <= n; k++) if ((m = split(list[k], word, " ")) > 0) {
-            brought[file, word[m]] = module ".{" word[1]
-            uses[file] = uses[file] " " module ".{" word[1]
+            called = last_name(word[m])
+            if (here) { brought[file, called] = module ".{" word[1]; uses[file] = uses[file] " " module ".{" word[1] }
+            else { gsub(/_/, "", called); kit[file, called] = module "." word[1] }
         }
-    } else {
+    } else if (here) {
         m = split(module, word, " ")
         module = word[m]
         sub(/.*[.]/, "", module)
@@ -152,6 +155,7 @@ function read_rt(file,    text, at, indent, state, from, id) {
         if (state == "") {
             from = indent
             if (text ~ /^pub use |^use .*[{*]/) problem(file ":" at ": a `use` line that this cannot follow: " text)
+            else if (text ~ /^(pub([(][a-z]+[)])? )?type /) problem(file ":" at ": another name for a type, which this cannot follow: " text)
             else if (text ~ /^ghost use /) { sub(/^ghost /, "", text); sub(/;$/, "", text); bring(file, text) }
             else if (text ~ /^use /) { sub(/^use /, "", text); sub(/;$/, "", text); rust_use[file, last_part(text)] = text }
             else if (text ~ /^pub mod /) { sub(/^pub mod /, "", text); sub(/;$/, "", text); opened[file, text] = 1 }
@@ -178,6 +182,7 @@ function read_rt(file,    text, at, indent, state, from, id) {
     close(file)
 }
 
+function last_name(path) { sub(/.*[.]/, "", path); return path }
 function word_from(text, at) { text = substr(text, at); sub(/[^A-Za-z0-9_].*/, "", text); return text }
 function last_part(path) { sub(/.*::/, "", path); return path }
 
@@ -192,6 +197,8 @@ function load(file) {
 # ---- What a name stands for: "" where that is the kit's, or nothing. as_constructor tells whether it was a constructor's name.
 
 function resolve(file, word,    at, head) {
+    sub(/^package[.]/, "", word)
+    if ((file, word) in kit) { use_kit(file, kit[file, word]); return "" }
     as_constructor = (file, word) in constructor
     if ((file, word) in own) return own[file, word]
     if ((file, word) in brought) return cited(file, brought[file, word])
@@ -203,7 +210,7 @@ function resolve(file, word,    at, head) {
     if ((file, head) in alias) {
         if (alias[file, head] == "") problem(file ": a path by a `mod` line, which this cannot follow: " word)
         word = alias[file, head] substr(word, at)
-    } else if (!is_here(head)) return ""
+    } else if (!is_here(head)) { use_kit(file, word); return "" }
     at = match(word, /[.][^.]*$/)
     return cited(file, substr(word, 1, at) "{" substr(word, at + 1))
 }
@@ -269,6 +276,41 @@ function rust_type(file, word,    part, n, crate) {
     return n > 1 && (crate in listed_crate) ? in_code(crate, part, 2, n, "declared.") : ""
 }
 
+# A word of the toolchain's kit, by its path, in what must be believed: the page tells what it is.
+function use_kit(file, path) {
+    if (believed) return
+    kit_used[path] = 1
+    if (!(path in kit_row)) problem(file ": `" path "` is a word of the kit that the page does not tell")
+}
+
+# A row of the page: words of one module of the kit, how they are written, and what they are.
+function kit_words(module, words, written, meaning,    word, n, k) {
+    n = split(words, word, " ")
+    for (k = 1; k <= n; k++) kit_row[module "." word[k]] = 1
+    kit_line[++kit_rows] = "| " written " | " meaning " |"
+}
+
+function tell_kit() {
+    kit_words("Prim.Native.Nat", "ℕ zero suc", "`ℕ`, `zero`, `suc n`", "a number, which has no bound; 0; n + 1")
+    kit_words("Prim.Native.Nat", "_+_ _*_ min max _≤_ _<_", "`m + n`, `m * n`, `min m n`, `max m n`, `m ≤ n`, `m < n`", "as in arithmetic")
+    kit_words("Prim.Native.Nat", "_-_ _/_ _%_", "`m - n`, `m / n`, `m % n`", \
+        "`-` stops at 0, `/` rounds down, `%` is the rest; nothing rests on what the two are by 0")
+    kit_words("lib.Dec", "eqb leb ltb", "`eqb m n`, `leb m n`, `ltb m n`", "whether m = n, m ≤ n, m < n")
+    kit_words("mathlib.Core.Bool", "Bool true false not _&&_ _||_", "`Bool`, `true`, `false`, `not b`, `b && c`, `b \\|\\| c`", \
+        "true or false; the other of the two; both are true, one of them is")
+    kit_words("mathlib.Core.Bool", "cond", "`cond b x y`", "x where b is true, and else y")
+    kit_words("mathlib.Core.List", "List [] _∷_ _++_", "`List A`, `[]`, `x ∷ l`, `l ++ m`", "a list; the empty one; l with x in front; l and then m")
+    kit_words("lib.ListN", "length replicate", "`length l`, `replicate n x`", "how many places a list has; a list of n times x")
+    kit_words("lib.ListN", "getD", "`getD l i x`", "what stands at place i of a list, counted from 0; x from its end on")
+    kit_words("lib.ListN", "set", "`set l i x`", "the list with x at place i; the same list from its end on")
+    kit_words("lib.ListN", "take drop", "`take n l`, `drop n l`", "the first n places, all where there are fewer; the others")
+    kit_words("Prim.Native.String", "String [] _∷_", "`String`, `end`, `c then s`", "a text; the empty one; s with the character c in front")
+    kit_words("Prim.Native.Char", "code", "`code c`", "the number of a character")
+    kit_words("mathlib.Core.Path", "_≡_", "`x ≡ y`", "x is y")
+    kit_words("mathlib.Core.Logic", "_⊎_", "`A × B`, `A ⊎ B`, `Unit`, `⊥`", "both are; one of the two is; nothing is said; it cannot be")
+    kit_words("denote.Ref", "RefT now", "`RefT A`, `now r`", "a reference to an A; what it refers to")
+}
+
 # ---- What the text of a thing names
 
 function tokens(text, tok) { gsub(/[(){};,@]/, " & ", text); return split(text, tok, " ") }
@@ -314,12 +356,13 @@ function scan_clause(by, tok, n,    i, depth, id) {
 }
 
 # The structs and enums in a struct's fields, or in a function's parameters and result; the parameters' names are bound.
-function scan_types(by, text,    word, n, k) {
+function scan_types(by, text,    word, n, k, id) {
     gsub(/[^A-Za-z0-9_:]/, " ", text)
     n = split(text, word, " ")
     for (k = 1; k <= n; k++) {
         if (word[k] ~ /[^:]:$/) bind(substr(word[k], 1, length(word[k]) - 1), 0)
-        else reach(rust_type(home[by], word[k]), by)
+        else if ((id = rust_type(home[by], word[k])) != "") reach(id, by)
+        else if (word[k] ~ /::[A-Z][A-Za-z0-9]*[a-z]/) problem(by ": a path to a type that this cannot follow: " word[k])
     }
 }
 
@@ -479,18 +522,11 @@ function page(    g) {
     print "`specs/working/`; where one that stands there is not come to; and where what must be believed is more than " limit " lines.\n"
     print "A definition is in the first group that comes to it. Its lines are those of its signature and its clauses, fields or"
     print "constructors, without comments and blank lines.\n"
-    print "They are written in these words of the toolchain's kit; a number has no bound:\n"
+    print "They are written in these words of the toolchain's kit. In a contract `now (x .entry)` and `now (x .exit)` are what a"
+    print "lent x holds before and after the call, and `λ r.` is the result. (The laws of functions that are proved by walks speak"
+    print "of the kit's program logic besides.)\n"
     print "| In the kit | What it is |\n|---|---|"
-    print "| `m - n`, `m / n`, `m % n` | `-` stops at 0, `/` rounds down, `%` is the rest; nothing rests on what the two are by 0 |"
-    print "| `eqb m n`, `leb m n`, `ltb m n` | whether m = n, m ≤ n, m < n |"
-    print "| `suc n` | n + 1 |"
-    print "| `cond b x y` | x where b is true, and else y |"
-    print "| `getD l i x` | what stands at place i of a list, counted from 0; x from its end on |"
-    print "| `set l i x` | the list with x at place i; the same list from its end on |"
-    print "| `take n l`, `drop n l` | the first n places, all where there are fewer; the others |"
-    print "| `replicate n x`, `x ∷ l`, `l ++ m` | n times x; l with x in front; l and then m |"
-    print "| `code c` | the number of a character |"
-    print "| `Unit`, `A × B`, `A ⊎ B` | nothing is said; both are; one of the two is |"
+    for (g = 1; g <= kit_rows; g++) print kit_line[g]
     print ""
     print "| Group | Definitions | Lines | Files |\n|---|---|---|---|"
     for (g = 1; g <= believed; g++) sum(link(title_of[g]), g, g, 0)
@@ -521,6 +557,7 @@ END {
     limit = 650
     promises = "docs/PROMISES.md"
     for (f = 1; f <= files; f++) if (file_at[f] ~ /\/(src|specs)\//) load(file_at[f])
+    tell_kit()
 
     new_group("A run", "What the public contracts of crate `run` come to.")
     root_public("run", "function")
@@ -553,6 +590,7 @@ END {
     end_group()
 
     for (f = 1; f <= files; f++) if (file_at[f] ~ /\/(src|specs)\//) look_over(file_at[f])
+    for (word in kit_row) if (!(word in kit_used)) problem("the page tells the kit's `" word "`, which nothing uses")
     tell(1, believed, 0, 0)
     if (lines > limit) problem("what must be believed is " lines " lines, more than " limit)
     page()
