@@ -1,3 +1,4 @@
+-- Whole budgets in one go.
 pub mod BudgetBooks
 pub mod BudgetLaws
 pub mod Budgets

@@ -1,3 +1,4 @@
+-- Which job is served, and the finishes.
 pub mod AllFinished
 pub mod AtLeastOne
 pub mod FinishList

@@ -1,3 +1,4 @@
+-- What one server does between two events.
 pub mod Planned
 pub mod PlannedLaws
 pub mod SpellBooks

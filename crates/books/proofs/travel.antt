@@ -1,3 +1,4 @@
+-- From event to event, to the horizon.
 pub mod ArrivalTaken
 pub mod AtHorizon
 pub mod BeforeArrivals

@@ -1,2 +1,3 @@
+-- Who is picked: the winner tree.
 pub mod Keys
 pub mod Winners
