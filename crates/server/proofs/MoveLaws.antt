@@ -11,7 +11,7 @@ use Rattle.clock.specs.declared.Length.{Length}
 use Rattle.clock.specs.declared.Moment.{Moment}
 use Rattle.counting.proofs.TestLaws.{not-both, or-true, or-false}
 use Rattle.server.specs.declared.Server.{Server}
-use Rattle.server.specs.Moves.{renews, renewed, withWork, arrived, oneTickLess, postponed, spent, served}
+use Rattle.server.specs.Moves.{renews, renewed, withWork, arrived, oneTickLess, postponed, spendsLast, served}
 use Rattle.server.specs.Server.{idle}
 
 -- "d is at or before t"
@@ -81,7 +81,7 @@ arrived-booking s t cost = go (idle s) (renews s t)
 
 pub served-booking : (s : Server) → bookingOf (served s) ≡ bookingOf s
 unfolding served
-served-booking s = go (spent (oneTickLess s))
+served-booking s = go (spendsLast s)
   where
     go : (e : Bool) → bookingOf (cond e (postponed (oneTickLess s)) (oneTickLess s)) ≡ bookingOf s
     go true = refl
