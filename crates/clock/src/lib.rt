@@ -13,7 +13,7 @@ pub struct Length {
     pub ticks: u64,
 }
 
-// The last moment that 64 bits can show. No dispatcher's clock or deadline comes near it.
+// The last moment that 64 bits can hold. No dispatcher's clock or deadline comes near it.
 pub const LAST_TICK: u64 = 18446744073709551615;
 
 // The moment that lies `by` after `from`, or the last one that 64 bits can hold where that is beyond it.

@@ -28,10 +28,10 @@ unfoldable pub afterArrival : Server → Moment → Length → Server
 afterArrival s t cost =
     cond (beyond s t || ltb mostWaiting (s .waiting .ticks + cost .ticks)) s (arrived s t cost)
 
--- no work, no budget left, or a next deadline that 64 bits cannot show
+-- no work, no budget left, or a next deadline that 64 bits cannot hold
 unfoldable pub unserved : Server → Bool
 unserved s = idle s || spent s || ltb lastTick (later (s .deadline) (s .period) .tick)
 
--- step 3, where there is work and budget, and 64 bits can show the next deadline
+-- step 3, where there is work and budget, and 64 bits can hold the next deadline
 unfoldable pub afterTick : Server → Server
 afterTick s = cond (unserved s) s (served s)

@@ -43,7 +43,7 @@ pub(crate) fn is_too_much(waiting: Length, cost: Length) -> bool
     false
 }
 
-// Whether a server has no work, no budget left, or a next deadline that 64 bits cannot show.
+// Whether a server has no work, no budget left, or a next deadline that 64 bits cannot hold.
 pub(crate) fn is_unserved(s: Server) -> bool
     ensures { λ r. ⌜ r ≡ unserved s ⌝ }
 {
