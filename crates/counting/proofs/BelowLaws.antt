@@ -1,9 +1,10 @@
 -- Laws of what every number below a bound passes.
-use Prim.Native.Nat.{ℕ, zero, suc, _<_}
+use Prim.Native.Nat.{ℕ, zero, suc, _+_, _<_}
 use mathlib.Core.Bool.{Bool, true, false}
 use mathlib.Core.Logic.{⊎-elim}
 use mathlib.Core.Path.{_≡_, refl, subst⁻¹}
 use native.Mathlib.Nat.{eq-or-lt-of-le, le-of-suc-le-suc, not-suc-le-zero}
+use native.Mathlib.Numerals.{add-one}
 use native.Mathlib.Omega.{arith}
 use Rattle.counting.proofs.TestLaws.{and-left, and-right, and-both, not-both}
 use Rattle.counting.specs.Below.{every}
@@ -29,6 +30,11 @@ pub every-from : (n : ℕ) (p : ℕ → Bool) → ((i : ℕ) → i < n → p i �
 unfolding every
 every-from zero p h = refl
 every-from (suc n) p h = and-both (every-from n p (λ i below. h i (omega arith))) (h n (omega arith))
+
+-- the numbers below k, and k too
+pub every-next : (k : ℕ) (p : ℕ → Bool) → every k p ≡ true → p k ≡ true → every (k + 1) p ≡ true
+unfolding every
+every-next k p all one = rw (add-one k) (and-both all one)
 
 -- one that fails is enough
 pub every-fails : (n : ℕ) (p : ℕ → Bool) (i : ℕ) → i < n → p i ≡ false → every n p ≡ false

@@ -2,7 +2,7 @@
 use Prim.Native.Nat.{ℕ, zero, suc, _+_, _*_, _≤_, _<_}
 use mathlib.Core.Logic.{⊎-elim}
 use mathlib.Core.Path.{_≡_, subst}
-use native.Mathlib.Nat.{eq-or-lt-of-le, le-of-suc-le-suc, not-suc-le-zero}
+use native.Mathlib.Nat.{eq-or-lt-of-le, le-of-suc-le-suc, le-refl, not-suc-le-zero}
 use native.Mathlib.Omega.{arith}
 use Rattle.counting.specs.Sum.{sum}
 
@@ -36,6 +36,13 @@ sum-falls (suc n) k i f g h b e =
 -- each of the numbers is at most their sum
 pub sum-at : (n i : ℕ) (f : ℕ → ℕ) → i < n → f i ≤ sum n f
 sum-at n i f b = omega (arith, sum-falls n (f i) i (λ j. 0) f (λ j c. omega arith) b (omega arith))
+
+-- the first k of them add up to no more than all
+pub sum-first : (n k : ℕ) (f : ℕ → ℕ) → k ≤ n → sum k f ≤ sum n f
+unfolding sum
+sum-first zero k f h = let none : k ≡ 0 = omega arith in rw none (le-refl _)
+sum-first (suc n) k f h =
+    ⊎-elim (λ (q : k ≡ suc n). rw q (le-refl _)) (λ (b : k < suc n). omega (arith, sum-first n k f (le-of-suc-le-suc b))) (eq-or-lt-of-le h)
 
 -- a common factor
 pub sum-times : (n k : ℕ) (f : ℕ → ℕ) → sum n (λ i. k * f i) ≡ k * sum n f

@@ -1,13 +1,12 @@
 -- What a run leaves in its lists satisfies demand 3, so what they tell of a window is within its server's bandwidth.
-use Prim.Native.Nat.{ℕ, zero, suc, _+_, _≤_, _<_}
+use Prim.Native.Nat.{ℕ, _+_, _≤_, _<_}
 use borrow.Author.Tests.{eq-eqb, leb-true, lt-leb, ltb-true}
 use lib.Dec.{ltb}
 use lib.ListN.{length}
-use mathlib.Core.Bool.{Bool, true}
+use mathlib.Core.Bool.{true}
 use mathlib.Core.List.{List}
-use mathlib.Core.Logic.{⊎-elim}
 use mathlib.Core.Path.{_≡_, _∙_, ap, ap₂}
-use native.Mathlib.Nat.{le-refl, le-trans, eq-or-lt-of-le, le-of-suc-le-suc, mul-le-mul-left}
+use native.Mathlib.Nat.{le-trans, mul-le-mul-left}
 use native.Mathlib.Numerals.{add-one}
 use native.Mathlib.Omega.{arith}
 use Rattle.arrival.specs.declared.Arrival.{Arrival}
@@ -15,8 +14,8 @@ use Rattle.booking.proofs.ShareLaws.{Sound, period-le-frame}
 use Rattle.clock.specs.Clock.{lastTick}
 use Rattle.counting.proofs.BelowLaws.{every-at}
 use Rattle.counting.proofs.PlacesLaws.{length-places}
-use Rattle.counting.proofs.TestLaws.{and-left, and-right, and-both}
-use Rattle.counting.specs.Below.{every}
+use Rattle.counting.proofs.SumLaws.{sum-first}
+use Rattle.counting.proofs.TestLaws.{and-left, and-right}
 use Rattle.counting.specs.Sum.{sum}
 use Rattle.demand_3.proofs.TracesLaws.{ran-list-demand-3, ran-no-work}
 use Rattle.finish.specs.Finish.{finishList}
@@ -32,13 +31,6 @@ use Rattle.test_in_time.specs.working.Lists.{AfterRun, inRun, isDone, al
 use Rattle.test_in_time.proofs.BandwidthLaws.{spent-fits}
 use Rattle.workfile.specs.Work.{work}
 
--- the first k of n numbers add up to no more than all
-sum-first : (n k : ℕ) (f : ℕ → ℕ) → k ≤ n → sum k f ≤ sum n f
-unfolding sum
-sum-first zero k f h = let none : k ≡ 0 = omega arith in rw none (le-refl _)
-sum-first (suc n) k f h =
-    ⊎-elim (λ (q : k ≡ suc n). rw q (le-refl _)) (λ (b : k < suc n). omega (arith, sum-first n k f (le-of-suc-le-suc b))) (eq-or-lt-of-le h)
-
 -- one number more, and that the sum so far then is no more than that of all
 module _ (f : ℕ → ℕ) {k added more : ℕ} (so-far : added ≡ sum k f) (one : more ≡ f k) where
   pub sum-next : added + more ≡ sum (k + 1) f
@@ -47,11 +39,6 @@ module _ (f : ℕ → ℕ) {k added more : ℕ} (so-far : added ≡ sum k f) (on
 
   pub sum-next-small : (n : ℕ) → k < n → added + more ≤ sum n f
   sum-next-small n h = rw sum-next (sum-first n (k + 1) f (omega (arith, h)))
-
--- what each of k numbers passes, and the next one, each of k + 1 does
-pub every-next : (k : ℕ) (p : ℕ → Bool) → every k p ≡ true → p k ≡ true → every (k + 1) p ≡ true
-unfolding every
-every-next k p all one = rw (add-one k) (and-both all one)
 
 -- A call of `run`, by its contract, that answers `Accepted`.
 module _ (file list ends after ended : List ℕ) (r : Ran) (said : runSays r after ended ≡ outcome file list ends)

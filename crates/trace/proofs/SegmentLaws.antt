@@ -58,6 +58,11 @@ module _ (h : History) (N : ℕ) where
       one true (given i d) = omega arith
       one false c = omega arith
 
+  -- a stretch ends by the horizon
+  pub lasting-ends : (b : ℕ) → b ≤ N → b + lasting h N b ≤ N
+  unfolding lasting
+  lasting-ends b le = omega (arith, first-le (N - b) (differs h b))
+
   -- Of the stretch that begins at b, before the horizon.
   module _ (b : ℕ) (before : b < N) where
     -- it has a tick
@@ -69,11 +74,6 @@ module _ (h : History) (N : ℕ) where
         go (no some) = omega arith
         go (yes none) =
             not-both (rw none at (first-passes (N - b) (differs h b) (omega arith))) (rw (add-zero b, same-refl (h b)))
-
-    -- it ends by the horizon
-    lasting-ends : b + lasting h N b ≤ N
-    unfolding lasting
-    lasting-ends = omega (arith, first-le (N - b) (differs h b))
 
     -- its ticks are given alike
     lasting-all : Alike h b (lasting h N b)
@@ -106,7 +106,7 @@ module _ (h : History) (N : ℕ) where
     where
       go : (b : Bool) → begins h t ≡ b → EverySegment P (cond b (segmentsOf (h t) t (lasting h N t)) [])
       go true e =
-          has t (lasting h N t) (lasting-some t le) (lasting-ends t le) (lasting-all t le) (begins-before t e) (lasting-behind t le)
+          has t (lasting h N t) (lasting-some t le) (lasting-ends t (omega arith)) (lasting-all t le) (begins-before t e) (lasting-behind t le)
       go false e = tt
 
 -- every one of them has it

@@ -12,13 +12,13 @@ use native.Mathlib.Nat.{add-sub-of-le, add-zero}
 use native.Mathlib.Omega.{arith}
 use Rattle.clock.specs.Clock.{moment, ticks}
 use Rattle.clock.specs.declared.Moment.{Moment}
-use Rattle.counting.proofs.FirstLaws.{first-le}
 use Rattle.counting.proofs.TestLaws.{and-false}
 use Rattle.history.proofs.ChoiceLaws.{same-differ}
 use Rattle.history.specs.Choice.{Choice, nobody, given, History, same}
 use Rattle.moments.specs.Moments.{history, waitingAt}
 use Rattle.sizes.specs.Sizes.{mostServers}
 use Rattle.summary.specs.Summary.{howMany, leavesWork, interruptedOf}
+use Rattle.trace.proofs.SegmentLaws.{lasting-ends}
 use Rattle.trace.proofs.TickLaws.{sumOver-append}
 use Rattle.trace.proofs.TraceLaws.{trace-stretch}
 use Rattle.trace.proofs.WrittenLaws.{written-more}
@@ -257,11 +257,6 @@ interrupted-end {w} {e} {t} list i waits d places s waiting g j b = go (decLt i 
             own true = getD-set-same list i (getD list i 0 + 1) 0 (omega arith) ∙ ap (λ (n : ℕ). n + 1) (g i l)
             own false = g i l ∙ sym (add-zero (howMany (leavesWork w i) (trace (history w) e)))
 
--- a segment ends by the horizon
-ends : (h : History) (N b : ℕ) → b ≤ N → b + lasting h N b ≤ N
-unfolding lasting
-ends h N b le = omega (arith, first-le (N - b) (λ k. not (same (h b) (h (b + k)))))
-
 -- At the horizon. What ended before the last stretch ended before N, and the last one does not.
 howMany-same : (p q : Segment → Bool) (h : History) (N t : ℕ) → ((s : Segment) → endOf s .tick ≤ N → p s ≡ q s) → t ≤ N
     → howMany p (begun h N t) ≡ howMany q (begun h N t)
@@ -276,7 +271,7 @@ howMany-same p q h N (suc t) alike le =
         (cond b (segmentsOf x t (lasting h N t)) [])
     here false x = refl
     here true nobody = refl
-    here true (given i d) = ap (λ (z : Bool). cond z 1 0 + 0) (alike _ (ends h N t (omega arith)))
+    here true (given i d) = ap (λ (z : Bool). cond z 1 0 + 0) (alike _ (lasting-ends h N t (omega arith)))
 
 module _ {w : Work} {e : ℕ} (i : ℕ) (d : Moment) (s : Stretch w e (w .horizon .tick) (chosen i d)) where
   -- the segments that end before N and leave work

@@ -7,11 +7,10 @@ use mathlib.Core.Path.{_≡_, refl, sym, _∙_, ap}
 use native.Mathlib.Omega.{arith}
 use Rattle.arrival.specs.declared.Arrival.{Arrival}
 use Rattle.books.proofs.Accepted.{arrival-read, arrivals-read}
-use Rattle.counting.proofs.BelowLaws.{every-fails}
+use Rattle.counting.proofs.BelowLaws.{every-fails, every-next}
 use Rattle.counting.specs.Below.{every}
 use Rattle.workfile.specs.Work.{work}
 use Rattle.test_in_time.specs.working.Lists.{isDone}
-use Rattle.test_in_time.proofs.ListsLaws.{every-next}
 use Rattle.test_in_time.proofs.lists.is_idle.Statement.{statement}
 use Rattle.test_in_time.proofs.lists.is_idle.Tie as tie
 
