@@ -1,10 +1,11 @@
 -- What the functions of a run may rely on: the file was accepted.
-use Prim.Native.Nat.{ℕ, _+_, _*_, _≤_, _<_}
+use Prim.Native.Nat.{ℕ, min, _+_, _*_, _≤_, _<_}
 use borrow.Author.Tests.{lt-ltb, le-ltb}
 use lib.Dec.{ltb}
 use mathlib.Core.Bool.{cond}
 use mathlib.Core.List.{List}
 use mathlib.Core.Path.{_≡_, ap}
+use native.Mathlib.Decide.{decLt}
 use native.Mathlib.Omega.{arith}
 use Rattle.judgement.proofs.FitLaws.{Fit, judged-fit}
 use Rattle.judgement.specs.Judgement.{judged}
@@ -65,14 +66,22 @@ module _ (file : List ℕ) {h : Header} (read : h ≡ header file) where
   unfolding work
   arrival-read k = ap (λ (x : Header). arrivalAt file (x .arrivals .offset + arrivalBytes * k)) read
 
--- the moment of arrival j, or the horizon behind the last
-unfoldable pub nextMoment : Work → ℕ → ℕ
-nextMoment w j = cond (ltb j (w .arrivals)) (w .arrival j .moment .tick) (w .horizon .tick)
+-- How far a run goes at most without an arrival, when it is told to end at `until`: up to the moment of arrival j.
+unfoldable pub nextStop : Work → ℕ → ℕ → ℕ
+nextStop w until j = cond (ltb j (w .arrivals)) (min (w .arrival j .moment .tick) until) until
 
-pub next-arrival : (w : Work) (j : ℕ) → j < w .arrivals → nextMoment w j ≡ w .arrival j .moment .tick
-unfolding nextMoment
-next-arrival w j l = rw (lt-ltb j (w .arrivals) l)
+module _ (w : Work) (until j : ℕ) where
+  pub stop-arrival : j < w .arrivals → nextStop w until j ≡ min (w .arrival j .moment .tick) until
+  unfolding nextStop
+  stop-arrival l = rw (lt-ltb j (w .arrivals) l)
 
-pub next-horizon : (w : Work) (j : ℕ) → w .arrivals ≤ j → nextMoment w j ≡ w .horizon .tick
-unfolding nextMoment
-next-horizon w j l = rw (le-ltb j (w .arrivals) l)
+  pub stop-behind : w .arrivals ≤ j → nextStop w until j ≡ until
+  unfolding nextStop
+  stop-behind l = rw (le-ltb j (w .arrivals) l)
+
+  pub stop-until : nextStop w until j ≤ until
+  stop-until = go (decLt j (w .arrivals))
+    where
+      go : Dec (j < w .arrivals) → nextStop w until j ≤ until
+      go (yes l) = omega (arith, stop-arrival l)
+      go (no l) = omega (arith, stop-behind (omega arith))

@@ -1,4 +1,5 @@
 pub mod Accepted
+pub mod Book
 pub mod SameWork
 pub mod budgets
 pub mod jobs

@@ -2,5 +2,6 @@
 pub mod Planned
 pub mod PlannedLaws
 pub mod SpellBooks
+pub mod SpellEvent
 pub mod SpellKeeps
 pub mod SpellLeaves

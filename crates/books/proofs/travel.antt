@@ -6,6 +6,7 @@ pub mod BetweenEvents
 pub mod EventBooks
 pub mod Events
 pub mod IdleTime
+pub mod Kept
 pub mod NoMoveRefused
 pub mod Stands
 pub mod Travels

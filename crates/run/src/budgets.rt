@@ -1,15 +1,17 @@
 // Whole budgets in one go: a server that has just been postponed and still wins goes on with the next budget.
 ghost use mathlib.Core.Path.{_≡_};
 ghost use Prim.Native.Nat.{suc, _+_, _*_, _≤_, _<_};
-ghost use lib.ListN.{length};
 ghost use lib.Dec.{eqb};
 ghost use mathlib.Core.Bool.{cond};
-ghost use Rattle.books.proofs.budgets.Budgets.{budgetsOn, currentOn, traceOn, interruptedOn, Further, Able, NoneAbove};
+ghost use Rattle.books.proofs.Book.{segmentBook};
+ghost use Rattle.books.proofs.budgets.Budgets.{Able, Budgets, BudgetsFrom, Further, budgetsOn, turnedOn};
 ghost use Rattle.books.proofs.budgets.BudgetLaws.{RisesBelow};
 ghost use Rattle.books.proofs.budgets.Skipped.{lastOf};
-ghost use Rattle.books.proofs.tree.Winners.{Winners};
-ghost use Rattle.clock.specs.Clock.{lastTick};
-ghost use Rattle.sizes.specs.Sizes.{clockEnd, mostServers};
+ghost use Rattle.books.proofs.stretches.Turns.{Bounded};
+ghost use Rattle.books.proofs.tree.Winners.{Leaf};
+ghost use Rattle.clock.specs.Clock.{lastTick, ticks};
+ghost use Rattle.sizes.specs.Sizes.{clockEnd};
+use crate::serving::less;
 use crate::serving::lesser;
 use crate::stretches;
 use crate::tree;
@@ -20,12 +22,10 @@ use server::Server;
 
 // For how many whole budgets server i goes on: none where its budget is not full, else as many as there is time and work to spare,
 // and as no other server wins before. The other half of the servers stands so many levels up in the tree.
-pub(crate) fn further(keys: &[u64; 128], levels: usize, i: usize, s: Server, spare: u64) -> u64
-    requires { ⌜ i < 64 ⌝ }
-    requires { ⌜ Winners (now keys) ⌝ }
+pub(crate) fn further(keys: &[u64; 128], levels: usize, i: usize, s: Server, spare: Length) -> u64
+    requires { ⌜ Leaf (now keys) i levels ⌝ }
     requires { ⌜ Able s ⌝ }
-    requires { ⌜ levels < 6 ⌝ }
-    ensures { λ r. ⌜ Further (now (keys .entry)) i s spare r ⌝ }
+    ensures { λ r. ⌜ Further (now (keys .entry)) i s (spare .ticks) r ⌝ }
 {
     let budget = s.budget.ticks;
     let period = s.period.ticks;
@@ -38,7 +38,7 @@ pub(crate) fn further(keys: &[u64; 128], levels: usize, i: usize, s: Server, spa
     if s.remaining.ticks < budget {
         return 0;
     }
-    if spare <= budget {
+    if spare.ticks <= budget {
         return 0;
     }
     let rival = tree::rival(keys, i);
@@ -46,7 +46,7 @@ pub(crate) fn further(keys: &[u64; 128], levels: usize, i: usize, s: Server, spa
         return 0;
     }
     let wins = rises(own, 64 * period, rival);
-    let fits = fits_in(budget, spare);
+    let fits = fits_in(budget, spare.ticks);
     if wins < fits {
         return wins;
     }
@@ -73,24 +73,25 @@ fn fits_in(budget: u64, spare: u64) -> u64
 
 // The server after n whole budgets.
 pub(crate) fn budgets_on(s: Server, n: u64) -> Server
-    requires { ⌜ Able s ⌝ }
-    requires { ⌜ n ≤ clockEnd ⌝ }
-    requires { ⌜ n * s .budget .ticks ≤ s .waiting .ticks ⌝ }
+    requires { ⌜ Budgets s n ⌝ }
     ensures { λ r. ⌜ r ≡ budgetsOn s n ⌝ }
 {
-    let waiting = Length {
-        ticks: s.waiting.ticks - n * s.budget.ticks,
-    };
-    let deadline = clock::later(
-        s.deadline,
-        Length {
-            ticks: n * s.period.ticks,
-        },
-    );
+    let waiting = less(s.waiting, times(n, s.budget));
+    let deadline = clock::later(s.deadline, times(n, s.period));
     let mut next = s;
     next.waiting = waiting;
     next.deadline = deadline;
     next
+}
+
+// A length so many times.
+pub(crate) fn times(n: u64, one: Length) -> Length
+    requires { ⌜ n * one .ticks ≤ lastTick ⌝ }
+    ensures { λ r. ⌜ r ≡ ticks (n * one .ticks) ⌝ }
+{
+    Length {
+        ticks: n * one.ticks,
+    }
 }
 
 // The stretches of n whole budgets of server i from t on, one after the other. Once the list is full their segments are only counted.
@@ -98,22 +99,14 @@ pub(crate) fn pass(
     list: &mut [u64],
     interrupted: &mut [u64; sizes::MOST_SERVERS],
     c: Current,
-    t: u64,
+    t: Moment,
     i: usize,
     s: Server,
     n: u64,
 ) -> Current
-    requires { ⌜ i < 64 ⌝ }
-    requires { ⌜ length (now interrupted) ≡ mostServers ⌝ }
-    requires { ⌜ Able s ⌝ }
-    requires { ⌜ t + n * s .budget .ticks ≤ clockEnd ⌝ }
-    requires { ⌜ n * s .budget .ticks ≤ s .waiting .ticks ⌝ }
-    requires { ⌜ c .start .tick ≤ t ⌝ }
-    requires { ⌜ c .count ≤ clockEnd ⌝ }
-    requires { ⌜ NoneAbove clockEnd (now interrupted) ⌝ }
-    ensures { λ r. ⌜ r ≡ currentOn c t i s n ⌝ }
-    ensures { λ r. ⌜ now (list .exit) ≡ traceOn c t i s n (now (list .entry)) ⌝ }
-    ensures { λ r. ⌜ now (interrupted .exit) ≡ interruptedOn c t i s n (now (interrupted .entry)) ⌝ }
+    requires { ⌜ BudgetsFrom (t .tick) i s n ⌝ }
+    requires { ⌜ Bounded (clockEnd + 1) (t .tick) (segmentBook (now list) (now interrupted) c) ⌝ }
+    ensures { λ r. ⌜ segmentBook (now (list .exit)) (now (interrupted .exit)) r ≡ turnedOn (segmentBook (now (list .entry)) (now (interrupted .entry)) c) (t .tick) i s n ⌝ }
 {
     let written = lesser(n, until_full(list.len() / 4, c.count));
     let current = pass_each(list, interrupted, c, t, i, s, written);
@@ -139,23 +132,19 @@ fn until_full(held: usize, ended: usize) -> u64
 }
 
 // The stretch of the budget behind n others, when so many segments have ended.
-fn last_of(t: u64, i: usize, s: Server, n: u64, ended: usize) -> Current
-    requires { ⌜ Able s ⌝ }
-    requires { ⌜ t + n * s .budget .ticks ≤ clockEnd ⌝ }
-    requires { ⌜ n < clockEnd ⌝ }
-    requires { ⌜ suc n * s .budget .ticks ≤ s .waiting .ticks ⌝ }
-    ensures { λ r. ⌜ r ≡ lastOf t i s n ended ⌝ }
+fn last_of(t: Moment, i: usize, s: Server, n: u64, ended: usize) -> Current
+    requires { ⌜ BudgetsFrom (t .tick) i s (suc n) ⌝ }
+    ensures { λ r. ⌜ r ≡ lastOf (t .tick) i s n ended ⌝ }
 {
-    let budget = s.budget.ticks;
     let last = budgets_on(s, n);
+    let start = clock::later(t, times(n, s.budget));
     let deadline = last.deadline;
+    let waits = less(last.waiting, s.budget);
     Current {
-        start: Moment {
-            tick: t + n * budget,
-        },
+        start,
         server: i,
         deadline,
-        waits: last.waiting.ticks - budget,
+        waits,
         count: ended,
     }
 }
@@ -165,32 +154,25 @@ fn pass_each(
     list: &mut [u64],
     interrupted: &mut [u64; sizes::MOST_SERVERS],
     c: Current,
-    t: u64,
+    t: Moment,
     i: usize,
     s: Server,
     n: u64,
 ) -> Current
-    requires { ⌜ Able s ⌝ }
-    requires { ⌜ t + n * s .budget .ticks ≤ clockEnd ⌝ }
-    requires { ⌜ n * s .budget .ticks ≤ s .waiting .ticks ⌝ }
-    requires { ⌜ c .start .tick ≤ t ⌝ }
-    requires { ⌜ c .count ≤ clockEnd ⌝ }
-    requires { ⌜ NoneAbove clockEnd (now interrupted) ⌝ }
-    ensures { λ r. ⌜ r ≡ currentOn c t i s n ⌝ }
-    ensures { λ r. ⌜ now (list .exit) ≡ traceOn c t i s n (now (list .entry)) ⌝ }
-    ensures { λ r. ⌜ now (interrupted .exit) ≡ interruptedOn c t i s n (now (interrupted .entry)) ⌝ }
+    requires { ⌜ BudgetsFrom (t .tick) i s n ⌝ }
+    requires { ⌜ Bounded (clockEnd + 1) (t .tick) (segmentBook (now list) (now interrupted) c) ⌝ }
+    ensures { λ r. ⌜ segmentBook (now (list .exit)) (now (interrupted .exit)) r ≡ turnedOn (segmentBook (now (list .entry)) (now (interrupted .entry)) c) (t .tick) i s n ⌝ }
 {
-    let budget = s.budget.ticks;
     let mut current = c;
     let mut at = t;
     let mut deadline = s.deadline;
-    let mut waiting = s.waiting.ticks;
+    let mut waiting = s.waiting;
     let mut k = 0;
     while k < n {
         current = stretches::turn_to(list, interrupted, current, at, i, deadline);
-        waiting -= budget;
+        waiting = less(waiting, s.budget);
         current.waits = waiting;
-        at += budget;
+        at = clock::later(at, s.budget);
         deadline = clock::later(deadline, s.period);
         k += 1;
     }
@@ -198,10 +180,10 @@ fn pass_each(
 }
 
 // One where the budget is spent.
-pub(crate) fn spent(k: u64, remaining: u64) -> u64
-    ensures { λ r. ⌜ r ≡ cond (eqb k remaining) 1 0 ⌝ }
+pub(crate) fn spent(by: Length, remaining: Length) -> u64
+    ensures { λ r. ⌜ r ≡ cond (eqb (by .ticks) (remaining .ticks)) 1 0 ⌝ }
 {
-    if k == remaining {
+    if by.ticks == remaining.ticks {
         return 1;
     }
     0

@@ -1,14 +1,16 @@
 // The finish list, the jobs of each server, one behind the other, and which of them each serves.
-ghost use Prim.Native.Nat.{_≤_, _<_};
-ghost use lib.ListN.{length, getD, replicate};
+ghost use Prim.Native.Nat.{_≤_};
+ghost use lib.ListN.{length};
 ghost use mathlib.Core.Path.{_≡_};
 ghost use Rattle.books.proofs.Accepted.{Accepted};
-ghost use Rattle.books.proofs.jobs.Lined.{Lined};
-ghost use Rattle.books.proofs.jobs.Opened.{Opened, Served, WentOn};
+ghost use Rattle.books.proofs.Book.{jobBook};
+ghost use Rattle.books.proofs.jobs.Lined.{Lined, Unlined};
+ghost use Rattle.books.proofs.jobs.Opened.{MayGoOn, Opened, Serves, WentOn};
 ghost use Rattle.finish.specs.Finish.{finishList, isOpen};
-ghost use Rattle.sizes.specs.Sizes.{clockEnd, mostArrivals, mostServers};
 ghost use Rattle.workfile.specs.Work.{work};
 use crate::reading;
+use clock::Length;
+use clock::Moment;
 
 // Every job is open at the start.
 pub(crate) fn open_all(finishes: &mut [u32], m: usize)
@@ -30,8 +32,7 @@ pub(crate) fn line_up(
     behind: &mut [usize; sizes::MOST_ARRIVALS],
 )
     requires { ⌜ Accepted (now file) ⌝ }
-    requires { ⌜ now first ≡ replicate mostServers (work (now file) .arrivals) ⌝ }
-    requires { ⌜ length (now behind) ≡ mostArrivals ⌝ }
+    requires { ⌜ Unlined (work (now file)) (now first) (now behind) ⌝ }
     ensures { λ _. ⌜ Lined (work (now (file .entry))) 0 (now (first .exit)) (now (behind .exit)) ⌝ }
 {
     let h = workfile::header_of(file);
@@ -51,45 +52,39 @@ pub(crate) fn left_of(
     job: &[usize; sizes::MOST_SERVERS],
     left: &mut [u64; sizes::MOST_SERVERS],
     i: usize,
-) -> u64
+) -> Length
     requires { ⌜ Accepted (now file) ⌝ }
-    requires { ⌜ i < 64 ⌝ }
-    requires { ⌜ length (now left) ≡ mostServers ⌝ }
-    requires { ⌜ Served (work (now file)) i (now job) (now left) ⌝ }
-    ensures { λ r. ⌜ Opened (work (now (file .entry))) i (now (job .entry)) (now (left .entry)) (now (left .exit)) r ⌝ }
+    requires { ⌜ Serves (work (now file)) i (now job) (now left) ⌝ }
+    ensures { λ r. ⌜ Opened (work (now (file .entry))) i (now (job .entry)) (now (left .entry)) (now (left .exit)) (r .ticks) ⌝ }
 {
     let rest = left[i];
     if rest > 0 {
-        return rest;
+        return Length { ticks: rest };
     }
     let a = reading::arrival_of(file, job[i]);
-    let cost = a.cost.ticks;
-    left[i] = cost;
+    let cost = a.cost;
+    left[i] = cost.ticks;
     cost
 }
 
-// Server i has run so many ticks of its job until t. Where nothing is left of it, it has finished, and the job behind it is next.
+// Server i has run so long of its job until t. Where nothing is left of it, it has finished, and the job behind it is next.
 pub(crate) fn go_on(
     finishes: &mut [u32],
     behind: &[usize; sizes::MOST_ARRIVALS],
     job: &mut [usize; sizes::MOST_SERVERS],
     left: &mut [u64; sizes::MOST_SERVERS],
     i: usize,
-    ticks: u64,
-    t: u64,
+    by: Length,
+    t: Moment,
 )
-    requires { ⌜ i < 64 ⌝ }
-    requires { ⌜ ticks ≤ getD (now left) i 0 ⌝ }
-    requires { ⌜ getD (now job) i 0 < mostArrivals ⌝ }
-    requires { ⌜ getD (now job) i 0 < length (now finishes) ⌝ }
-    requires { ⌜ t ≤ clockEnd ⌝ }
-    ensures { λ _. ⌜ WentOn i ticks t (now (behind .entry)) (now (job .entry)) (now (left .entry)) (now (finishes .entry)) (now (job .exit)) (now (left .exit)) (now (finishes .exit)) ⌝ }
+    requires { ⌜ MayGoOn i (by .ticks) (t .tick) (jobBook (now job) (now left) (now finishes)) ⌝ }
+    ensures { λ _. ⌜ WentOn i (by .ticks) (t .tick) (now (behind .entry)) (jobBook (now (job .entry)) (now (left .entry)) (now (finishes .entry))) (jobBook (now (job .exit)) (now (left .exit)) (now (finishes .exit))) ⌝ }
 {
-    let rest = left[i] - ticks;
+    let rest = left[i] - by.ticks;
     left[i] = rest;
     if rest == 0 {
         let ended = job[i];
-        finishes[ended] = t as u32;
+        finishes[ended] = t.tick as u32;
         job[i] = behind[ended];
     }
 }

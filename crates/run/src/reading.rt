@@ -1,9 +1,11 @@
 // The arrivals of an accepted file, read where they lie.
 ghost use mathlib.Core.Path.{_≡_};
 ghost use Prim.Native.Nat.{_<_};
-ghost use Rattle.books.proofs.Accepted.{Accepted, nextMoment};
+ghost use Rattle.books.proofs.Accepted.{Accepted, nextStop};
+ghost use Rattle.clock.specs.Clock.{moment};
 ghost use Rattle.workfile.specs.Work.{work};
 use arrival::Arrival;
+use clock::Moment;
 
 // Arrival k.
 pub(crate) fn arrival_of(file: &[u8], k: usize) -> Arrival
@@ -16,17 +18,18 @@ pub(crate) fn arrival_of(file: &[u8], k: usize) -> Arrival
     reader::arrival_from(file, from, sizes::ARRIVAL_BYTES * k)
 }
 
-// The moment of arrival j, or the horizon behind the last one.
-pub(crate) fn next_moment(file: &[u8], j: usize) -> u64
+// How far a run goes at most without an arrival, when it is told to end at `until`: up to the moment of arrival j.
+pub(crate) fn next_stop(file: &[u8], until: Moment, j: usize) -> Moment
     requires { ⌜ Accepted (now file) ⌝ }
-    ensures { λ r. ⌜ r ≡ nextMoment (work (now (file .entry))) j ⌝ }
+    ensures { λ r. ⌜ r ≡ moment (nextStop (work (now (file .entry))) (until .tick) j) ⌝ }
 {
     let h = workfile::header_of(file);
-    let count = h.arrivals.count;
-    let horizon = h.horizon.tick;
-    if j < count {
-        let a = arrival_of(file, j);
-        return a.moment.tick;
+    if j >= h.arrivals.count {
+        return until;
     }
-    horizon
+    let a = arrival_of(file, j);
+    if until.tick < a.moment.tick {
+        return until;
+    }
+    a.moment
 }

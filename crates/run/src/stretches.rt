@@ -1,10 +1,12 @@
 // The stretch that a run is in: it goes on, or it ends and another begins.
 ghost use mathlib.Core.Path.{_≡_};
-ghost use Prim.Native.Nat.{_≤_, _<_};
+ghost use Prim.Native.Nat.{_<_};
 ghost use lib.ListN.{getD};
+ghost use Rattle.books.proofs.Book.{segmentBook};
+ghost use Rattle.books.proofs.stretches.Interruptions.{interruptedAfter};
 ghost use Rattle.books.proofs.stretches.Segmented.{atRest};
-ghost use Rattle.books.proofs.stretches.Stretches.{traceAfter, countAfter, interruptedAfter};
-ghost use Rattle.books.proofs.stretches.Turns.{stays, currentThen, traceThen, interruptedThen};
+ghost use Rattle.books.proofs.stretches.Segments.{listAfter, countAfter};
+ghost use Rattle.books.proofs.stretches.Turns.{MayEnd, stays, turned};
 ghost use Rattle.clock.specs.Clock.{lastTick, moment};
 ghost use Rattle.sizes.specs.Sizes.{mostServers};
 use books::Current;
@@ -21,7 +23,7 @@ pub(crate) fn at_rest() -> Current
         start,
         server: sizes::MOST_SERVERS,
         deadline: start,
-        waits: 0,
+        waits: Length { ticks: 0 },
         count: 0,
     }
 }
@@ -31,14 +33,11 @@ pub(crate) fn idle(
     list: &mut [u64],
     interrupted: &mut [u64; sizes::MOST_SERVERS],
     c: Current,
-    t: u64,
+    t: Moment,
 ) -> Current
-    requires { ⌜ c .start .tick ≤ t ⌝ }
-    requires { ⌜ c .count < lastTick ⌝ }
+    requires { ⌜ MayEnd (t .tick) c ⌝ }
     requires { ⌜ getD (now interrupted) (c .server) 0 < lastTick ⌝ }
-    ensures { λ r. ⌜ r ≡ currentThen c t mostServers (moment 0) ⌝ }
-    ensures { λ r. ⌜ now (list .exit) ≡ traceThen c t mostServers (moment 0) (now (list .entry)) ⌝ }
-    ensures { λ r. ⌜ now (interrupted .exit) ≡ interruptedThen c mostServers (moment 0) (now (interrupted .entry)) ⌝ }
+    ensures { λ r. ⌜ segmentBook (now (list .exit)) (now (interrupted .exit)) r ≡ turned (segmentBook (now (list .entry)) (now (interrupted .entry)) c) (t .tick) mostServers (moment 0) ⌝ }
 {
     turn_to(
         list,
@@ -55,26 +54,22 @@ pub(crate) fn turn_to(
     list: &mut [u64],
     interrupted: &mut [u64; sizes::MOST_SERVERS],
     c: Current,
-    t: u64,
+    t: Moment,
     i: usize,
     deadline: Moment,
 ) -> Current
-    requires { ⌜ c .start .tick ≤ t ⌝ }
-    requires { ⌜ c .count < lastTick ⌝ }
+    requires { ⌜ MayEnd (t .tick) c ⌝ }
     requires { ⌜ getD (now interrupted) (c .server) 0 < lastTick ⌝ }
-    ensures { λ r. ⌜ r ≡ currentThen c t i deadline ⌝ }
-    ensures { λ r. ⌜ now (list .exit) ≡ traceThen c t i deadline (now (list .entry)) ⌝ }
-    ensures { λ r. ⌜ now (interrupted .exit) ≡ interruptedThen c i deadline (now (interrupted .entry)) ⌝ }
+    ensures { λ r. ⌜ segmentBook (now (list .exit)) (now (interrupted .exit)) r ≡ turned (segmentBook (now (list .entry)) (now (interrupted .entry)) c) (t .tick) i deadline ⌝ }
 {
-    let server = c.server;
     let waits = c.waits;
     if goes_on(c, i, deadline) {
         return c;
     }
     let count = end_segment(list, c, t);
-    interrupt(interrupted, server, waits);
+    interrupt(interrupted, c);
     Current {
-        start: Moment { tick: t },
+        start: t,
         server: i,
         deadline,
         waits,
@@ -92,25 +87,25 @@ fn goes_on(c: Current, i: usize, deadline: Moment) -> bool
     false
 }
 
-// One interruption more of a server whose stretch has ended while work of it waits.
-fn interrupt(interrupted: &mut [u64; sizes::MOST_SERVERS], server: usize, waits: u64)
-    requires { ⌜ getD (now interrupted) server 0 < lastTick ⌝ }
-    ensures { λ _. ⌜ now (interrupted .exit) ≡ interruptedAfter server waits (now (interrupted .entry)) ⌝ }
+// One interruption more of the server whose stretch has ended, where work of it waits.
+fn interrupt(interrupted: &mut [u64; sizes::MOST_SERVERS], c: Current)
+    requires { ⌜ getD (now interrupted) (c .server) 0 < lastTick ⌝ }
+    ensures { λ _. ⌜ now (interrupted .exit) ≡ interruptedAfter c (now (interrupted .entry)) ⌝ }
 {
+    let server = c.server;
     if server >= sizes::MOST_SERVERS {
         return;
     }
-    if waits > 0 {
+    if c.waits.ticks > 0 {
         interrupted[server] += 1;
     }
 }
 
 // The segment of a stretch that ends at t, and how many have ended then.
-pub(crate) fn end_segment(list: &mut [u64], c: Current, t: u64) -> usize
-    requires { ⌜ c .start .tick ≤ t ⌝ }
-    requires { ⌜ c .count < lastTick ⌝ }
-    ensures { λ r. ⌜ r ≡ countAfter (c .server) (c .count) ⌝ }
-    ensures { λ r. ⌜ now (list .exit) ≡ traceAfter (c .server) (c .deadline) (c .start .tick) t (c .count) (now (list .entry)) ⌝ }
+pub(crate) fn end_segment(list: &mut [u64], c: Current, t: Moment) -> usize
+    requires { ⌜ MayEnd (t .tick) c ⌝ }
+    ensures { λ r. ⌜ r ≡ countAfter c ⌝ }
+    ensures { λ r. ⌜ now (list .exit) ≡ listAfter c (t .tick) (now (list .entry)) ⌝ }
 {
     let start = c.start;
     let server = c.server;
@@ -119,9 +114,7 @@ pub(crate) fn end_segment(list: &mut [u64], c: Current, t: u64) -> usize
     if sizes::MOST_SERVERS <= server {
         return count;
     }
-    let length = Length {
-        ticks: t - start.tick,
-    };
+    let length = clock::until(start, t);
     trace::write(
         list,
         count,

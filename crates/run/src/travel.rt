@@ -1,11 +1,13 @@
-// A run from event to event, to the horizon.
-ghost use Prim.Native.Nat.{_≤_, _<_};
+// A run from event to event, to a moment that it is told, and so to the horizon.
+ghost use Prim.Native.Nat.{_≤_};
 ghost use lib.ListN.{length};
 ghost use mathlib.Core.Path.{_≡_};
 ghost use Rattle.books.proofs.Accepted.{Accepted};
+ghost use Rattle.books.proofs.Book.{book, jobBook, lentIn, segmentBook, standingAt, turnBook};
+ghost use Rattle.books.proofs.stretches.Segmented.{atRest};
 ghost use Rattle.books.proofs.travel.AtHorizon.{AtHorizon};
-ghost use Rattle.books.proofs.jobs.Lined.{Lined};
-ghost use Rattle.finish.specs.Finish.{finishList, isOpen};
+ghost use Rattle.books.proofs.travel.Travels.{MayTravel, Travels};
+ghost use Rattle.clock.specs.Clock.{moment};
 ghost use Rattle.moments.specs.Moments.{atMoment};
 ghost use Rattle.workfile.specs.Work.{work};
 use crate::jobs;
@@ -15,119 +17,137 @@ use crate::starting;
 use crate::stretches;
 use crate::taking;
 use crate::tree;
+use books::Standing;
+use books::Travelled;
 use clock::Moment;
-use dispatcher::Dispatcher;
 
-pub struct Travelled {
-    pub segments: usize,
-    pub postponed: [u64; sizes::MOST_SERVERS],
-    pub interrupted: [u64; sizes::MOST_SERVERS],
-}
-
-// Every job is opened, those of each server are lined up, and the run goes from its start to the horizon.
+// Every job is opened, those of each server are lined up, and the run goes from its start to the horizon, where its last segment ends.
 pub(crate) fn travel(file: &[u8], list: &mut [u64], finishes: &mut [u32]) -> Travelled
     requires { ⌜ Accepted (now file) ⌝ }
     requires { ⌜ work (now file) .arrivals ≤ length (now finishes) ⌝ }
-    ensures { λ r. ⌜ AtHorizon (work (now (file .entry))) (now (list .entry)) (now (finishes .entry)) (now (list .exit)) (now (finishes .exit)) (r .segments) (r .postponed) (r .interrupted) ⌝ }
+    ensures { λ r. ⌜ AtHorizon (work (now (file .entry))) (now (list .entry)) (now (finishes .entry)) (now (list .exit)) (now (finishes .exit)) r ⌝ }
 {
     let h = workfile::header_of(file);
     let arrivals = h.arrivals.count;
-    let horizon = h.horizon.tick;
+    let horizon = h.horizon;
     let levels = tree::levels_of(h.servers.count);
     jobs::open_all(finishes, arrivals);
-    // The job that each server serves, and the job behind each.
+    // The job that each server serves, the job behind each, and what is left of the one that is served.
     let mut job = [arrivals; sizes::MOST_SERVERS];
     let mut behind = [0; sizes::MOST_ARRIVALS];
     jobs::line_up(file, &mut job, &mut behind);
-    to_horizon(
+    let mut left = [0; sizes::MOST_SERVERS];
+    // The winner tree, in which an idle server has the last number of all for its key.
+    let mut keys = [clock::LAST_TICK; 128];
+    let mut postponed = [0; sizes::MOST_SERVERS];
+    let mut interrupted = [0; sizes::MOST_SERVERS];
+    let end = to_moment(
         file,
         list,
         finishes,
         horizon,
         levels,
-        starting::start(file),
+        from_start(file),
+        &mut keys,
+        &mut postponed,
+        &mut interrupted,
         &mut job,
+        &mut left,
         &behind,
-    )
+    );
+    let segments = stretches::end_segment(list, end.current, end.moment);
+    Travelled {
+        segments,
+        postponed,
+        interrupted,
+    }
 }
 
-// The run from its start, every job being open. Segments go into the list as they end, and finishes as they come. The dispatcher stays in
-// this function, and a spell or an arrival is handed one server: handing all of them on at each would take longer than all the rest.
-fn to_horizon(
+// Where a run stands at its start.
+fn from_start(file: &[u8]) -> Standing
+    requires { ⌜ Accepted (now file) ⌝ }
+    ensures { λ r. ⌜ r ≡ record { moment = moment 0; taken = 0; dispatcher = atMoment (work (now (file .entry))) 0; current = atRest } ⌝ }
+{
+    let dispatcher = starting::start(file);
+    let current = stretches::at_rest();
+    Standing {
+        moment: Moment { tick: 0 },
+        taken: 0,
+        dispatcher,
+        current,
+    }
+}
+
+// The run from where it stands on, up to a moment before whose arrivals it ends. Segments go into the list as they end, and finishes as they
+// come. The dispatcher stays in this function, and a spell or an arrival is handed one server: handing all of them on at each would take
+// longer than all the rest.
+fn to_moment(
     file: &[u8],
     list: &mut [u64],
     finishes: &mut [u32],
-    horizon: u64,
+    until: Moment,
     levels: usize,
-    mut d: Dispatcher,
+    from: Standing,
+    keys: &mut [u64; 128],
+    postponed: &mut [u64; sizes::MOST_SERVERS],
+    interrupted: &mut [u64; sizes::MOST_SERVERS],
     job: &mut [usize; sizes::MOST_SERVERS],
+    left: &mut [u64; sizes::MOST_SERVERS],
     behind: &[usize; sizes::MOST_ARRIVALS],
-) -> Travelled
-    requires { ⌜ Accepted (now file) ⌝ }
-    requires { ⌜ work (now file) .arrivals ≤ length (now finishes) ⌝ }
-    requires { ⌜ now finishes ≡ finishList (work (now file) .arrivals) (λ k. isOpen) (now finishes) ⌝ }
-    requires { ⌜ horizon ≡ work (now file) .horizon .tick ⌝ }
-    requires { ⌜ d ≡ atMoment (work (now file)) 0 ⌝ }
-    requires { ⌜ Lined (work (now file)) 0 (now job) (now behind) ⌝ }
-    requires { ⌜ levels < 6 ⌝ }
-    ensures { λ r. ⌜ AtHorizon (work (now (file .entry))) (now (list .entry)) (now (finishes .entry)) (now (list .exit)) (now (finishes .exit)) (r .segments) (r .postponed) (r .interrupted) ⌝ }
+) -> Standing
+    requires { ⌜ MayTravel (now file) (now behind) (until .tick) levels (lentIn (work (now file)) (from .moment .tick) (from .current) (now list) (now finishes)) (standingAt from) (book (turnBook (now keys) (now postponed) (segmentBook (now list) (now interrupted) (from .current))) (jobBook (now job) (now left) (now finishes))) ⌝ }
+    ensures { λ r. ⌜ r .moment ≡ until ⌝ }
+    ensures { λ r. ⌜ Travels (lentIn (work (now (file .entry))) (from .moment .tick) (from .current) (now (list .entry)) (now (finishes .entry))) (standingAt r) (book (turnBook (now (keys .exit)) (now (postponed .exit)) (segmentBook (now (list .exit)) (now (interrupted .exit)) (r .current))) (jobBook (now (job .exit)) (now (left .exit)) (now (finishes .exit)))) ⌝ }
 {
-    // The winner tree, in which an idle server has the last number of all for its key.
-    let mut keys = [clock::LAST_TICK; 128];
-    // What is left of the job that each server serves.
-    let mut left = [0; sizes::MOST_SERVERS];
-    let mut postponed = [0; sizes::MOST_SERVERS];
-    let mut interrupted = [0; sizes::MOST_SERVERS];
-    let mut c = stretches::at_rest();
-    // The moment, how many arrivals are taken, and the moment of the next one, or the horizon.
-    let mut t = 0;
-    let mut j = 0;
-    let mut next = reading::next_moment(file, 0);
-    while t < horizon {
-        while next <= t {
+    let mut d = from.dispatcher;
+    let mut c = from.current;
+    // The moment, how many arrivals are taken, and how far it goes at most without the next.
+    let mut t = from.moment;
+    let mut j = from.taken;
+    let mut next = reading::next_stop(file, until, j);
+    while t.tick < until.tick {
+        while next.tick <= t.tick {
             let a = reading::arrival_of(file, j);
             let i = a.server;
-            let taken = taking::take(&mut keys, i, d.servers[i], d.clock, a.cost);
+            let taken = taking::take(keys, i, d.servers[i], d.clock, a.cost);
             d.servers[i] = taken;
             j += 1;
-            next = reading::next_moment(file, j);
+            next = reading::next_stop(file, until, j);
         }
         let key = keys[1];
         if key == clock::LAST_TICK {
-            c = stretches::idle(list, &mut interrupted, c, t);
+            c = stretches::idle(list, interrupted, c, t);
             t = next;
-            let now = Moment { tick: t };
-            d.clock = now;
+            d.clock = t;
         } else {
             let i = (key % 64) as usize;
-            let rest = jobs::left_of(file, job, &mut left, i);
+            let rest = jobs::left_of(file, job, left, i);
             let g = spell::go(
                 list,
-                &mut keys,
-                &mut postponed,
-                &mut interrupted,
+                keys,
+                postponed,
+                interrupted,
                 levels,
                 c,
                 t,
                 i,
                 d.servers[i],
                 rest,
-                next - t,
+                clock::until(t, next),
             );
-            let ticks = g.gone;
+            let gone = g.gone;
             let server = g.server;
             c = g.current;
             d.servers[i] = server;
-            t += ticks;
-            let now = Moment { tick: t };
-            d.clock = now;
-            jobs::go_on(finishes, behind, job, &mut left, i, ticks, t);
+            t = clock::later(t, gone);
+            d.clock = t;
+            jobs::go_on(finishes, behind, job, left, i, gone, t);
         }
     }
-    let segments = stretches::end_segment(list, c, t);
-    Travelled {
-        segments,
-        postponed,
-        interrupted,
+    Standing {
+        moment: t,
+        taken: j,
+        dispatcher: d,
+        current: c,
     }
 }

@@ -1,23 +1,17 @@
 -- Laws of whole budgets in one go: how many there may be, and that no number on the way is too large.
 use Prim.Native.Nat.{ℕ, zero, suc, _+_, _-_, _*_, _/_, _≤_, _<_}
-use lib.Dec.{ltb}
-use lib.ListN.{length, getD, set, length-set, List·getD-eq-default}
-use lib.Seq.{getD-set-same, getD-set-other}
-use mathlib.Core.Bool.{Bool, true, false, cond, _&&_}
 use mathlib.Core.List.{List}
 use mathlib.Core.Path.{_≡_, sym, _∙_, ap}
-use native.Mathlib.Decide.{decLt, ℕ-discrete}
-use native.Mathlib.Nat.{div-mul-le-self, div-le-self, mul-le-mul-right, mul-le-mul}
+use native.Mathlib.Nat.{div-mul-le-self, div-le-self, le-mul-of-pos-right, mul-le-mul-right, mul-le-mul}
 use native.Mathlib.Omega.{arith}
 use Rattle.clock.proofs.ClockLaws.{up-to-last-whole}
 use Rattle.clock.specs.Clock.{moment, ticks, later, upToLast}
 use Rattle.clock.specs.declared.Moment.{Moment}
 use Rattle.server.specs.declared.Server.{Server}
-use Rattle.sizes.specs.Sizes.{clockEnd, mostFrame, mostServers}
-use Rattle.books.specs.declared.Current.{Current}
-use Rattle.books.proofs.budgets.Budgets.{budgetsOn, currentOn, interruptedOn, Able, NoneAbove, Further}
-use Rattle.books.proofs.stretches.Stretches.{countAfter, interruptedAfter}
-use Rattle.books.proofs.stretches.Turns.{stays, currentThen, interruptedThen}
+use Rattle.sizes.specs.Sizes.{clockEnd, mostFrame}
+use Rattle.books.proofs.Book.{SegmentBook}
+use Rattle.books.proofs.budgets.Budgets.{budgetsOn, turnedOn, Able, BudgetsFrom, Further}
+use Rattle.books.proofs.stretches.Turns.{Bounded, turned-bounded}
 use Rattle.books.proofs.tree.Winners.{Rival}
 
 -- the first r of the numbers that rise from `from` on by `step` are below a bound
@@ -92,76 +86,41 @@ deadline-more s n able few =
     (omega (arith, able .deadline, periods-few s (suc n) able (omega arith)))
     ∙ ap moment (omega arith)
 
--- The stretch after a tick at t began by t, with at most one segment more,
-pub then-start : (c : Current) (t i : ℕ) (d : Moment) → c .start .tick ≤ t → currentThen c t i d .start .tick ≤ t
-unfolding currentThen
-then-start c t i d by = go (stays c i d)
-  where
-    go : (b : Bool)
-        → (cond b c (record { start = moment t; server = i; deadline = d; waits = c .waits; count = countAfter (c .server) (c .count) }))
-        .start
-        .tick
-        ≤ t
-    go true = by
-    go false = omega arith
+-- and leaves a budget less waiting
+pub waiting-more : (s : Server) (n : ℕ) → ticks (budgetsOn s n .waiting .ticks - s .budget .ticks) ≡ budgetsOn s (suc n) .waiting
+unfolding budgetsOn
+waiting-more s n = ap ticks (omega arith)
 
-pub then-count : (c : Current) (t i : ℕ) (d : Moment) → currentThen c t i d .count ≤ c .count + 1
-unfolding currentThen countAfter
-then-count c t i d = go (stays c i d) (ltb (c .server) mostServers)
-  where
-    go : (b l : Bool)
-        → (cond b c (record { start = moment t; server = i; deadline = d; waits = c .waits; count = cond l (c .count + 1) (c .count) })) .count
-        ≤ c .count + 1
-    go true l = omega arith
-    go false true = omega arith
-    go false false = omega arith
+-- there are no more budgets than ticks in them
+pub budgets-few : {t i : ℕ} {s : Server} {n : ℕ} → BudgetsFrom t i s n → n ≤ clockEnd
+budgets-few {n = n} go = omega (arith, le-mul-of-pos-right n (go .able .budget), go .time)
 
--- and with at most one interruption more.
-set-above : (most : ℕ) (list : List ℕ) (i : ℕ) → NoneAbove most list → NoneAbove (most + 1) (set list i (getD list i 0 + 1))
-set-above most list i none j = go (ℕ-discrete j i) (decLt i (length list))
-  where
-    go : Dec (j ≡ i) → Dec (i < length list) → getD (set list i (getD list i 0 + 1)) j 0 ≤ most + 1
-    go (no other) d = omega (arith, getD-set-other list i j (getD list i 0 + 1) 0 other, none j)
-    go (yes e) (yes here) = rw e (omega (arith, getD-set-same list i (getD list i 0 + 1) 0 here, none i))
-    go (yes e) (no beyond) =
-        rw e
-        (omega (
-          arith,
-          List·getD-eq-default (set list i (getD list i 0 + 1)) 0 {n = i} (omega (arith, length-set list i (getD list i 0 + 1))),
-        ))
+-- and fewer of them are no more
+pub budgets-less : {t i : ℕ} {s : Server} {n : ℕ} (m : ℕ) → m ≤ n → BudgetsFrom t i s n → BudgetsFrom t i s m
+budgets-less {s = s} m within go =
+    record {
+      place = go .place;
+      able = go .able;
+      time = omega (arith, mul-le-mul-right (s .budget .ticks) within, go .time);
+      works = omega (arith, mul-le-mul-right (s .budget .ticks) within, go .works);
+    }
 
-pub then-above : (most : ℕ) (c : Current) (i : ℕ) (d : Moment) (list : List ℕ) → NoneAbove most list
-    → NoneAbove (most + 1) (interruptedThen c i d list)
-unfolding interruptedThen interruptedAfter
-then-above most c i d list none j = go (stays c i d) (ltb (c .server) mostServers && ltb 0 (c .waits))
-  where
-    go : (b l : Bool) → getD (cond b list (cond l (set list (c .server) (getD list (c .server) 0 + 1)) list)) j 0 ≤ most + 1
-    go true l = omega (arith, none j)
-    go false true = set-above most list (c .server) none j
-    go false false = omega (arith, none j)
-
--- So after k budgets.
-module _ (c : Current) (t i : ℕ) (s : Server) where
-  pub on-begun : (k : ℕ) → c .start .tick ≤ t → currentOn c t i s k .start .tick ≤ t + k * s .budget .ticks
-  unfolding currentOn
-  on-begun zero by = omega arith
-  on-begun (suc k) by =
-      omega (
-        arith,
-        then-start (currentOn c t i s k) (t + k * s .budget .ticks) i (budgetsOn s k .deadline) (on-begun k by),
-      )
-
-  pub on-count : (k : ℕ) → currentOn c t i s k .count ≤ c .count + k
-  unfolding currentOn
-  on-count zero = omega arith
-  on-count (suc k) =
-      omega (arith, then-count (currentOn c t i s k) (t + k * s .budget .ticks) i (budgetsOn s k .deadline), on-count k)
-
-  pub on-above : (k most : ℕ) (list : List ℕ) → NoneAbove most list → NoneAbove (most + k) (interruptedOn c t i s k list)
-  unfolding interruptedOn
-  on-above zero most list none j = omega (arith, none j)
-  on-above (suc k) most list none j =
-      omega (
-        arith,
-        then-above (most + k) (currentOn c t i s k) i (budgetsOn s k .deadline) (interruptedOn c t i s k list) (on-above k most list none) j,
-      )
+-- Each budget adds one to every bound of the segments.
+pub on-bounded : {most t : ℕ} {b : SegmentBook} (i : ℕ) (s : Server) (k : ℕ) → Bounded most t b
+    → Bounded (most + k) (t + k * s .budget .ticks) (turnedOn b t i s k)
+unfolding turnedOn
+on-bounded i s zero by =
+    record {
+      from = omega (arith, by .from);
+      counted = omega (arith, by .counted);
+      cut = λ j. omega (arith, by .cut j);
+      places = by .places;
+    }
+on-bounded {most} {t} {b} i s (suc k) by =
+    let x = turned-bounded i (budgetsOn s k .deadline) (on-bounded i s k by) in
+    record {
+      from = omega (arith, x .from);
+      counted = omega (arith, x .counted);
+      cut = λ j. omega (arith, x .cut j);
+      places = x .places;
+    }

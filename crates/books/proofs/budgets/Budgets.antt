@@ -1,7 +1,7 @@
 -- Whole budgets in one go: a server that has just been postponed and still wins goes on with the next budget.
 use Prim.Native.Nat.{ℕ, zero, suc, _+_, _-_, _*_, _≤_, _<_}
 use borrow.Author.Tests.{ne-eqb}
-use lib.ListN.{length, getD, set}
+use lib.ListN.{length, set}
 use mathlib.Core.Bool.{false}
 use lib.Seq.{getD-set-same, getD-set-other, set-getD, set-set}
 use mathlib.Core.List.{List}
@@ -16,11 +16,10 @@ use Rattle.moments.proofs.OneGo.{servedFor, ranFor}
 use Rattle.moments.proofs.OneGoLaws.{served-spent}
 use Rattle.server.specs.Server.{vacant, idle, holding}
 use Rattle.server.specs.declared.Server.{Server}
-use Rattle.sizes.specs.Sizes.{clockEnd, mostFrame}
-use Rattle.books.specs.declared.Current.{Current}
+use Rattle.sizes.specs.Sizes.{clockEnd, mostFrame, mostServers}
+use Rattle.books.proofs.Book.{SegmentBook, withWaits}
 use Rattle.books.proofs.tree.Keys.{keyOf, key-works}
-use Rattle.books.proofs.stretches.Segmented.{withWaits}
-use Rattle.books.proofs.stretches.Turns.{traceThen, interruptedThen, currentThen}
+use Rattle.books.proofs.stretches.Turns.{turned}
 use Rattle.books.proofs.tree.Winners.{keyAt}
 
 -- a server with a full budget, n budgets later
@@ -32,21 +31,11 @@ unfoldable pub ranBudgets : Dispatcher → ℕ → ℕ → Dispatcher
 ranBudgets d i n =
     standing d (later (d .clock) (ticks (n * serverAt d i .budget .ticks))) (set (d .servers) i (budgetsOn (serverAt d i) n))
 
--- and the stretch that a run is in, the lent list and the interruptions: each budget is a stretch of its own
-unfoldable pub currentOn : Current → ℕ → ℕ → Server → ℕ → Current
-currentOn c t i s zero = c
-currentOn c t i s (suc n) =
-    withWaits (currentThen (currentOn c t i s n) (t + n * s .budget .ticks) i (budgetsOn s n .deadline)) (budgetsOn s (suc n) .waiting .ticks)
-
-unfoldable pub traceOn : Current → ℕ → ℕ → Server → ℕ → List ℕ → List ℕ
-traceOn c t i s zero list = list
-traceOn c t i s (suc n) list =
-    traceThen (currentOn c t i s n) (t + n * s .budget .ticks) i (budgetsOn s n .deadline) (traceOn c t i s n list)
-
-unfoldable pub interruptedOn : Current → ℕ → ℕ → Server → ℕ → List ℕ → List ℕ
-interruptedOn c t i s zero list = list
-interruptedOn c t i s (suc n) list =
-    interruptedThen (currentOn c t i s n) i (budgetsOn s n .deadline) (interruptedOn c t i s n list)
+-- and the segments: each budget is a stretch of its own
+unfoldable pub turnedOn : SegmentBook → ℕ → ℕ → Server → ℕ → SegmentBook
+turnedOn b t i s zero = b
+turnedOn b t i s (suc n) =
+    withWaits (turned (turnedOn b t i s n) (t + n * s .budget .ticks) i (budgetsOn s n .deadline)) (budgetsOn s (suc n) .waiting)
 
 -- what a server within its ranges has, so that no number here is too large
 pub record Able (s : Server) : Type 0 where
@@ -56,9 +45,18 @@ pub record Able (s : Server) : Type 0 where
   pub remaining : s .remaining .ticks ≤ s .budget .ticks
   pub deadline : s .deadline .tick ≤ mostFrame * (clockEnd + 1)
 
--- no number of a list is above a bound
-abbrev pub NoneAbove : ℕ → List ℕ → Type 0
-NoneAbove most list = (j : ℕ) → getD list j 0 ≤ most
+-- it has work for n whole budgets
+pub record Budgets (s : Server) (n : ℕ) : Type 0 where
+  pub able : Able s
+  pub few : n ≤ clockEnd
+  pub works : n * s .budget .ticks ≤ s .waiting .ticks
+
+-- and time for them, from t on
+pub record BudgetsFrom (t i : ℕ) (s : Server) (n : ℕ) : Type 0 where
+  pub place : i < mostServers
+  pub able : Able s
+  pub time : t + n * s .budget .ticks ≤ clockEnd
+  pub works : n * s .budget .ticks ≤ s .waiting .ticks
 
 -- How many budgets b a server may go on for, with so much to spare of its work and of the time: none of the others wins before.
 pub record Further (keys : List ℕ) (i : ℕ) (s : Server) (spare b : ℕ) : Type 0 where

@@ -17,6 +17,19 @@ pub record Lined (w : Work) (k : ℕ) (first behind : List ℕ) : Type 0 where
   pub firsts : (i : ℕ) → i < mostServers → NextJob w i k (getD first i 0)
   pub behinds : (a : ℕ) → k ≤ a → a < w .arrivals → NextJob w (w .arrival a .server) (suc a) (getD behind a 0)
 
+-- what a run keeps of it: the job behind each of all arrivals
+pub record Follow (w : Work) (behind : List ℕ) : Type 0 where
+  pub places : length behind ≡ mostArrivals
+  pub behinds : (a : ℕ) → a < w .arrivals → NextJob w (w .arrival a .server) (suc a) (getD behind a 0)
+
+pub lined-follow : {w : Work} {first behind : List ℕ} → Lined w 0 first behind → Follow w behind
+lined-follow l = record { places = l .behind-places; behinds = λ a to. l .behinds a (omega arith) to }
+
+-- before they are lined up: each server's is the count of all arrivals
+pub record Unlined (w : Work) (first behind : List ℕ) : Type 0 where
+  pub first-is : first ≡ replicate mostServers (w .arrivals)
+  pub places : length behind ≡ mostArrivals
+
 -- behind all arrivals no server has a job
 pub lined-none : {w : Work} {behind : List ℕ} → length behind ≡ mostArrivals
     → Lined w (w .arrivals) (replicate mostServers (w .arrivals)) behind

@@ -16,9 +16,11 @@ use Rattle.server.specs.Ranges.{Ranged}
 use Rattle.server.specs.declared.Server.{Server}
 use Rattle.sizes.specs.Sizes.{clockEnd, mostFrame}
 use Rattle.books.proofs.budgets.BudgetLaws.{periods-few}
-use Rattle.books.proofs.budgets.Budgets.{Able, budgetsOn, Further}
+use Rattle.books.proofs.Book.{TurnBook}
+use Rattle.books.proofs.budgets.Budgets.{Able, Budgets, BudgetsFrom, budgetsOn, Further}
 use Rattle.books.proofs.tree.Keys.{keyOf}
-use Rattle.books.proofs.spell.Planned.{Planned}
+use Rattle.books.specs.declared.PlannedSpell.{PlannedSpell}
+use Rattle.books.proofs.spell.Planned.{MayPlan, MayGo, Planned}
 
 -- A server within its ranges before the end of the clock.
 module _ {t : Moment} {s : Server} (ranged : Ranged t s) (before : t .tick < clockEnd) where
@@ -72,11 +74,11 @@ left-works : (ticks : ℕ) {spare rest waiting n : ℕ} → ticks + spare ≤ re
 left-works ticks within work few = omega arith
 
 -- The ticks of a spell, the server after them, and what is left of job and time.
-module _ {s : Server} {rest room ticks spare : ℕ} {after : Server} (able : Able s) (early : s .deadline .tick ≤ mostFrame * clockEnd)
-    (work : rest ≤ s .waiting .ticks) (time : room ≤ clockEnd) (ticks-is : ticks ≡ min (min (s .remaining .ticks) rest) room)
-    (after-is : after ≡ servedFor s ticks) (spare-is : spare ≡ min (rest - ticks) (room - ticks)) where
+module _ {keys : List ℕ} {levels i : ℕ} {s : Server} {rest room ticks spare : ℕ} {after : Server} (may : MayPlan keys levels i s rest room)
+    (ticks-is : ticks ≡ min (min (s .remaining .ticks) rest) room) (after-is : after ≡ servedFor s ticks)
+    (spare-is : spare ≡ min (rest - ticks) (room - ticks)) where
   pub after-able : Able after
-  after-able = subst⁻¹ Able after-is (served-able s ticks able early)
+  after-able = subst⁻¹ Able after-is (served-able s ticks (may .able) (may .early))
 
   after-budget : after .budget .ticks ≡ s .budget .ticks
   after-budget = ap (λ (x : Server). x .budget .ticks) after-is ∙ ap (λ (q : Length). q .ticks) (served-budget s ticks)
@@ -87,37 +89,49 @@ module _ {s : Server} {rest room ticks spare : ℕ} {after : Server} (able : Abl
   spare-job : ticks + spare ≤ rest
   spare-job = omega arith
 
-  -- and b whole budgets
-  module _ {keys : List ℕ} {i b : ℕ} (further : Further keys i after spare b) where
-    pub further-spare : b * s .budget .ticks ≤ spare
-    further-spare = go b (λ l. omega (arith, further .fits l, ap (λ (q : ℕ). b * q) after-budget))
+  -- and n whole budgets
+  module _ {n : ℕ} (further : Further keys i after spare n) where
+    further-spare : n * s .budget .ticks ≤ spare
+    further-spare = go n (λ l. omega (arith, further .fits l, ap (λ (q : ℕ). n * q) after-budget))
       where
-        go : (n : ℕ) → (0 < n → n * s .budget .ticks ≤ spare) → n * s .budget .ticks ≤ spare
+        go : (m : ℕ) → (0 < m → m * s .budget .ticks ≤ spare) → m * s .budget .ticks ≤ spare
         go zero fits = omega arith
-        go (suc n) fits = fits (omega arith)
+        go (suc m) fits = fits (omega arith)
 
-    pub further-works : b * after .budget .ticks ≤ after .waiting .ticks
+    further-works : n * after .budget .ticks ≤ after .waiting .ticks
     further-works =
-        subst₂ (λ (work waiting : ℕ). work ≤ waiting) (ap (λ (q : ℕ). b * q) (sym after-budget)) (sym after-waiting)
-        (left-works ticks spare-job work further-spare)
+        subst₂ (λ (work waiting : ℕ). work ≤ waiting) (ap (λ (q : ℕ). n * q) (sym after-budget)) (sym after-waiting)
+        (left-works ticks spare-job (may .work) further-spare)
 
     -- each has a tick at least
-    pub further-few : b ≤ clockEnd
-    further-few = omega (arith, further-spare, le-mul-of-pos-right b (able .budget))
+    pub further-few : n ≤ clockEnd
+    further-few = omega (arith, further-spare, le-mul-of-pos-right n (may .able .budget), may .time)
 
-    pub last-key : i < 64 → budgetsOn after b .deadline .tick * 64 + i ≤ lastTick
+    pub further-budgets : Budgets after n
+    further-budgets = record { able = after-able; few = further-few; works = further-works }
+
+    pub last-key : budgetsOn after n .deadline .tick * 64 + i ≤ lastTick
     unfolding budgetsOn
-    last-key l = omega (arith, after-able .deadline, periods-few after b after-able further-few)
+    last-key = omega (arith, after-able .deadline, periods-few after n after-able further-few, may .leaf .place)
 
-    pub gone-few : ticks + b * s .budget .ticks ≤ clockEnd
-    gone-few = omega (arith, further-spare)
+    pub gone-few : ticks + n * s .budget .ticks ≤ clockEnd
+    gone-few = omega (arith, further-spare, may .time)
 
-    pub planned : {last : Server} {key spent : ℕ} → 0 < rest → 0 < s .remaining .ticks → 0 < room → last ≡ budgetsOn after b
-        → key ≡ keyOf last i → spent ≡ cond (eqb ticks (s .remaining .ticks)) 1 0
-        → Planned keys i s rest room ticks after b last key (ticks + b * s .budget .ticks) (spent + b)
-    planned {last} {key} {spent} some-rest some-budget some-room last-is key-is spent-is =
+    pub planned : {last : Server} {key spent : ℕ} → last ≡ budgetsOn after n → key ≡ keyOf last i
+        → spent ≡ cond (eqb ticks (s .remaining .ticks)) 1 0
+        → Planned keys i s rest room
+        (record {
+          ticks = record { ticks = ticks };
+          after = after;
+          budgets = n;
+          last = last;
+          key = key;
+          gone = record { ticks = ticks + n * s .budget .ticks };
+          postponed = spent + n;
+        })
+    planned {last} {key} {spent} last-is key-is spent-is =
         record {
-          some = omega arith;
+          some = omega (arith, may .some-work, may .charged, may .some-time);
           inside = omega arith;
           budget = omega arith;
           time = omega arith;
@@ -125,31 +139,38 @@ module _ {s : Server} {rest room ticks spare : ℕ} {after : Server} (able : Abl
           spare = spare;
           of-job = omega arith;
           of-time = omega arith;
-          further = subst (λ (x : Server). Further keys i x spare b) after-is further;
-          last-is = whole;
-          key-is = key-is ∙ ap (λ (x : Server). keyOf x i) whole;
+          further = further;
+          last-is = last-is;
+          key-is = key-is;
           gone-is = refl;
           gone-rest = omega (arith, further-spare);
           gone-room = omega (arith, further-spare);
-          postponed-is = ap (λ (n : ℕ). n + b) spent-is;
+          postponed-is = ap (λ (m : ℕ). m + n) spent-is;
           able = after-able;
           works = further-works;
-          gone-after = ap (λ (q : ℕ). ticks + b * q) after-budget;
+          gone-after = ap (λ (q : ℕ). ticks + n * q) after-budget;
         }
-      where
-        whole : last ≡ budgetsOn (servedFor s ticks) b
-        whole = last-is ∙ ap (λ (x : Server). budgetsOn x b) after-is
 
 -- a spell postpones its server at most once more than it has budgets, and each budget takes a tick at least
-pub planned-few : {keys : List ℕ} {i : ℕ} {s : Server} {rest room ticks : ℕ} {after : Server} {budgets : ℕ} {last : Server}
-    {key gone postponed : ℕ} → Planned keys i s rest room ticks after budgets last key gone postponed → 1 ≤ s .budget .ticks
-    → postponed ≤ room + 1
-planned-few {s = s} {ticks = ticks} {budgets = budgets} p one =
+pub planned-few : {keys : List ℕ} {i : ℕ} {s : Server} {rest room : ℕ} {p : PlannedSpell} → Planned keys i s rest room p
+    → 1 ≤ s .budget .ticks → p .postponed ≤ room + 1
+planned-few {s = s} {p = p} plan one =
     omega (
       arith,
-      p .postponed-is,
-      spent-once ticks (s .remaining .ticks) refl,
-      p .gone-is,
-      p .gone-room,
-      mul-le-mul-left budgets one,
+      plan .postponed-is,
+      spent-once (p .ticks .ticks) (s .remaining .ticks) refl,
+      plan .gone-is,
+      plan .gone-room,
+      mul-le-mul-left (p .budgets) one,
     )
+
+-- there is work and time for its budgets, which begin behind its ticks
+pub planned-budgets : {keys : List ℕ} {levels t i : ℕ} {s : Server} {rest room : ℕ} {b : TurnBook} {p : PlannedSpell}
+    → MayGo levels t i s rest room b → Planned keys i s rest room p → BudgetsFrom (t + p .ticks .ticks) i (p .after) (p .budgets)
+planned-budgets may plan =
+    record {
+      place = may .plans .leaf .place;
+      able = plan .able;
+      time = omega (arith, plan .gone-after, plan .gone-room, may .in-time);
+      works = plan .works;
+    }

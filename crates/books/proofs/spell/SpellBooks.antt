@@ -1,250 +1,295 @@
--- An event as a whole: server i, which is picked, runs r ticks of its job, as many as its budget and the time to the next arrival allow,
--- and then n whole budgets.
+-- A spell as it was planned keeps what holds between two events.
 use Prim.Native.Nat.{ℕ, zero, suc, _+_, _-_, _*_, _%_, _≤_, _<_}
 use lib.Dec.{eqb}
 use lib.ListN.{length, getD, set}
-use lib.Seq.{getD-set-same, set-set}
+use lib.Seq.{getD-set-same, getD-set-other, set-set}
 use mathlib.Core.Bool.{cond}
 use mathlib.Core.List.{List}
-use mathlib.Core.Path.{_≡_, sym, _∙_, ap, subst, subst⁻¹, subst₂}
-use native.Mathlib.Decide.{ℕ-discrete}
-use native.Mathlib.Nat.{add-assoc}
+use mathlib.Core.Path.{_≡_, refl, sym, _∙_, ap, ap₂, subst, subst⁻¹, subst₂}
+use native.Mathlib.Nat.{mul-le-mul-right}
 use native.Mathlib.Omega.{arith}
 use Rattle.clock.specs.Clock.{lastTick, moment}
 use Rattle.clock.specs.declared.Length.{Length}
 use Rattle.dispatcher.specs.Moves.{standing}
 use Rattle.dispatcher.specs.Pick.{serverAt, Earliest}
+use Rattle.dispatcher.specs.Within.{Within}
 use Rattle.dispatcher.specs.declared.Dispatcher.{Dispatcher}
 use Rattle.judgement.proofs.FitLaws.{Fit}
-use Rattle.moments.proofs.OneGo.{servedFor}
+use Rattle.moments.proofs.OneGo.{ranFor, servedFor}
 use Rattle.moments.proofs.OneGoLaws.{served-budget}
+use Rattle.server.specs.Server.{vacant}
 use Rattle.server.specs.declared.Server.{Server}
 use Rattle.sizes.specs.Sizes.{mostServers}
-use Rattle.workfile.specs.Work.{Work}
-use Rattle.books.proofs.budgets.Budgets.{budgetsOn, currentOn, traceOn, interruptedOn, Further}
-use Rattle.books.specs.declared.Current.{Current}
-use Rattle.books.proofs.travel.EventBooks.{Jobs, Counts, Ended, ran-jobs, ran-jobs-ended, ran-ended, ran-ended-one}
-use Rattle.books.proofs.jobs.Jobs.{NextJob}
-use Rattle.books.proofs.tree.Keys.{keyOf, Keyed}
-use Rattle.books.proofs.stretches.Segmented.{Segmented, withWaits}
-use Rattle.books.proofs.travel.Stands.{Stands}
-use Rattle.books.proofs.stretches.Turns.{traceThen, interruptedThen, currentThen}
-use Rattle.books.proofs.travel.Travels.{Travels, later-than, next-horizon-le, pick, travels-then}
+use Rattle.books.specs.declared.Gone.{Gone}
+use Rattle.books.specs.declared.PlannedSpell.{PlannedSpell}
+use Rattle.books.proofs.Book.{Run, Here, here, Book, book, TurnBook, turnBook, JobBook, jobBook}
+use Rattle.books.proofs.budgets.BudgetBooks.{budgetBook, on-all}
+use Rattle.books.proofs.budgets.Budgets.{budgetsOn, ranBudgets, turnedOn, Further, wins-picked}
+use Rattle.books.proofs.jobs.JobBooks.{Jobs}
+use Rattle.books.proofs.jobs.Jobs.{NextJob, job-waiting}
+use Rattle.books.proofs.spell.Planned.{Planned}
+use Rattle.books.proofs.spell.SpellLeaves.{SpellLeaves, afterTicks}
+use Rattle.books.proofs.travel.BetweenEvents.{Ahead, clock-now, now-within, earliest}
+use Rattle.books.proofs.travel.EventBooks.{kept-ran, ran-jobs, ran-jobs-ended}
+use Rattle.books.proofs.travel.Kept.{Kept, kept-keys}
+use Rattle.books.proofs.travel.Stands.{NoneBefore, stands-within}
+use Rattle.books.proofs.travel.Travels.{Travels}
+use Rattle.books.proofs.tree.Keys.{keyOf, Keyed, keyed-set}
 use Rattle.books.proofs.tree.Winners.{Set}
 
--- how long it goes on
-abbrev pub gone : Server → ℕ → ℕ → ℕ
-gone s r n = r + n * s .budget .ticks
+-- the server that the root of the tree names
+abbrev pub pickedIn : Book → ℕ
+pickedIn b = getD (b .turns .keys) 1 0 % 64
 
--- the stretch that the run is in after the first r ticks
-abbrev pub currentNow : Current → Dispatcher → ℕ → ℕ → ℕ → Current
-currentNow c d t i r = withWaits (currentThen c t i (serverAt d i .deadline)) (servedFor (serverAt d i) r .waiting .ticks)
+-- The picked server's spell, once its job is opened, up to a moment that comes no later than the next arrival.
+pub record Spelled (r : Run) (h : Here) (b : Book) (room : ℕ) (turns : TurnBook) (g : Gone) : Type 0 where
+  pub works : getD (b .turns .keys) 1 0 ≡ lastTick → ⊥
+  pub some : 0 < getD (b .jobs .left) (pickedIn b) 0
+  pub ahead : Ahead (r .work) h (h .t + room)
+  pub leaves :
+      SpellLeaves (h .t) (pickedIn b) (serverAt (h .dispatcher) (pickedIn b)) (getD (b .jobs .left) (pickedIn b) 0) room (b .turns) turns g
 
--- the books then: all but those of jobs and finishes
-pub record SpellBooks (t next : ℕ) (d : Dispatcher) (keys rest postponed interrupted list : List ℕ) (c : Current) (i r spare n : ℕ)
-    (keys′ rest′ postponed′ interrupted′ list′ : List ℕ) (c′ : Current) : Type 0 where
-  pub some : 0 < r
-  pub inside : r ≤ getD rest i 0
-  pub budget : r ≤ serverAt d i .remaining .ticks
-  pub time : t + r ≤ next
-  pub of-job : spare ≤ getD rest i 0 - r
-  pub room : t + r + spare ≤ next
-  pub further : Further keys i (servedFor (serverAt d i) r) spare n
-  pub set-now : Set keys keys′ i (keyOf (budgetsOn (servedFor (serverAt d i) r) n) i)
-  pub rest-is : rest′ ≡ set rest i (getD rest i 0 - gone (serverAt d i) r n)
-  pub postponed-is : postponed′ ≡ set postponed i (getD postponed i 0 + (cond (eqb r (serverAt d i .remaining .ticks)) 1 0 + n))
-  pub interrupted-is :
-      interrupted′
-      ≡ interruptedOn (currentNow c d t i r) (t + r) i (servedFor (serverAt d i) r) n
-      (interruptedThen c i (serverAt d i .deadline) interrupted)
-  pub list-is :
-      list′ ≡ traceOn (currentNow c d t i r) (t + r) i (servedFor (serverAt d i) r) n
-      (traceThen c t i (serverAt d i .deadline) list)
-  pub current-is : c′ ≡ currentOn (currentNow c d t i r) (t + r) i (servedFor (serverAt d i) r) n
+-- where the run stands when it is over
+abbrev pub hereAfter : Here → ℕ → Gone → Here
+hereAfter h i g =
+    here (h .t + g .gone .ticks) (h .taken)
+    (standing (h .dispatcher) (moment (h .t + g .gone .ticks)) (set (h .dispatcher .servers) i (g .server)))
 
-module _ {w : Work} {lent ends : List ℕ} {t j next : ℕ} {d : Dispatcher}
-    {keys job left postponed interrupted list finishes : List ℕ}
-    {c : Current} (fit : Fit w (length ends))
-    (v : Travels w lent ends t j next d keys job left postponed interrupted list finishes c) (ahead : t < next) (i : ℕ)
-    (server : i < mostServers) (works : getD keys 1 0 ≡ lastTick → ⊥) (is : i ≡ getD keys 1 0 % 64) {work rest : List ℕ}
-    (b : Jobs w t j work rest) (some : 0 < getD rest i 0) {spare n : ℕ} {keys′ rest′ postponed′ interrupted′ list′ : List ℕ}
-    {c′ : Current}
-    (k : ℕ) (h : SpellBooks t next d keys rest postponed interrupted list c i (suc k) spare n keys′ rest′ postponed′ interrupted′
-    list′ c′) where
-  its-rest : getD (set rest i (getD rest i 0 - suc k)) i 0 ≡ getD rest i 0 - suc k
-  its-rest = getD-set-same rest i (getD rest i 0 - suc k) 0 (omega (arith, b .left-places))
+module _ {r : Run} {h : Here} {b : Book} (fit : Fit (r .work) (length (r .finishes))) (v : Travels r h b) {room : ℕ} {turns : TurnBook}
+    {g : Gone} (x : Spelled r h b room turns g) where
+  abbrev i : ℕ
+  i = pickedIn b
 
-  rest-then : set (set rest i (getD rest i 0 - suc k)) i
-      (getD (set rest i (getD rest i 0 - suc k)) i 0 - n * serverAt d i .budget .ticks)
-      ≡ rest′
-  rest-then =
-      set-set rest i (getD rest i 0 - suc k) (getD (set rest i (getD rest i 0 - suc k)) i 0 - n * serverAt d i .budget .ticks)
-      ∙ ap (set rest i) (omega (arith, its-rest))
-      ∙ sym (h .rest-is)
+  abbrev d : Dispatcher
+  d = h .dispatcher
 
-  postponed-then : set postponed i (getD postponed i 0 + cond (eqb (suc k) (serverAt d i .remaining .ticks)) 1 0 + n) ≡ postponed′
-  postponed-then =
-      ap (set postponed i) (add-assoc (getD postponed i 0) (cond (eqb (suc k) (serverAt d i .remaining .ticks)) 1 0) n)
-      ∙ sym (h .postponed-is)
+  abbrev s : Server
+  s = serverAt d i
 
-  time-then : t + suc k + n * serverAt d i .budget .ticks ≡ t + gone (serverAt d i) (suc k) n
-  time-then = add-assoc t (suc k) (n * serverAt d i .budget .ticks)
+  abbrev left : ℕ
+  left = getD (b .jobs .left) i 0
 
-  -- with these jobs and finishes after the first ticks
-  finally : {work′ finishes′ : List ℕ} → Jobs w (t + suc k) j work′ (set rest i (getD rest i 0 - suc k))
-      → Ended w (t + suc k) ends finishes′
-      → Travels w lent ends (t + gone (serverAt d i) (suc k) n) j next (standing d (moment (t + gone (serverAt d i) (suc k) n)) (set (d .servers) i (budgetsOn (servedFor (serverAt d i) (suc k)) n))) keys′ work′ rest′
-      postponed′
-      interrupted′
-      list′
-      finishes′
-      c′
-  finally {work′} {finishes′} jobs′ ended′ =
-      record {
-        stands = subst (λ (u : ℕ). Stands w u j (dispatcherAt u)) time-then (x .stands);
-        next-is = v .next-is;
-        horizon = subst (λ (u : ℕ). u ≤ w .horizon .tick) time-then (x .horizon);
-        keyed = subst (λ (u : ℕ). Keyed keys′ (dispatcherAt u)) time-then (x .keyed);
-        jobs = subst₂ (λ (u : ℕ) (l : List ℕ). Jobs w u j work′ l) time-then rest-then (x .jobs);
-        counts = subst₂ (Counts w) time-then postponed-then (x .counts);
-        ended = subst (λ (u : ℕ). Ended w u ends finishes′) time-then (x .ended);
-        segmented =
-            subst⁻¹ (λ (y : Current). Segmented w lent list′ interrupted′ y (t + gone (serverAt d i) (suc k) n)) (h .current-is)
-            (subst₂ (λ (l m : List ℕ). Segmented w lent l m onward (t + gone (serverAt d i) (suc k) n)) (sym (h .list-is))
-            (sym (h .interrupted-is))
-            (subst (Segmented w lent listed cut onward) time-then (x .segmented)));
-      }
+  abbrev spell : PlannedSpell
+  spell = x .leaves .spell
+
+  abbrev n : ℕ
+  n = spell .budgets
+
+  p : Planned (b .turns .keys) i s left room spell
+  p = x .leaves .planned
+
+  pick : Earliest d (d .count) i
+  pick = earliest fit v (x .works)
+
+  within : Within d
+  within = now-within fit v
+
+  place : i < length (d .servers)
+  place = omega (arith, within .places, within .count, pick .among)
+
+  server : i < mostServers
+  server = omega (arith, within .count, pick .among)
+
+  same-budget : spell .after .budget .ticks ≡ s .budget .ticks
+  same-budget =
+      ap (λ (s : Server). s .budget .ticks) (p .after-is) ∙ ap (λ (l : Length). l .ticks) (served-budget s (spell .ticks .ticks))
+
+  pub gone-is : g .gone .ticks ≡ spell .ticks .ticks + n * spell .after .budget .ticks
+  gone-is = ap (λ (l : Length). l .ticks) (x .leaves .gone-is) ∙ sym (p .gone-after)
+
+  -- where there are budgets they leave some of the job
+  budgets-spare : n * spell .after .budget .ticks ≤ p .spare
+  budgets-spare = go n (p .further .fits)
     where
-      dispatcherAt : ℕ → Dispatcher
-      dispatcherAt u = standing d (moment u) (set (d .servers) i (budgetsOn (servedFor (serverAt d i) (suc k)) n))
-
-      onward : Current
-      onward = currentOn (currentNow c d t i (suc k)) (t + suc k) i (servedFor (serverAt d i) (suc k)) n
-
-      listed : List ℕ
-      listed =
-          traceOn (currentNow c d t i (suc k)) (t + suc k) i (servedFor (serverAt d i) (suc k)) n
-          (traceThen c t i (serverAt d i .deadline) list)
-
-      cut : List ℕ
-      cut =
-          interruptedOn (currentNow c d t i (suc k)) (t + suc k) i (servedFor (serverAt d i) (suc k)) n
-          (interruptedThen c i (serverAt d i .deadline) interrupted)
-
-      x : Travels w lent ends (t + suc k + n * serverAt d i .budget .ticks) j next
-          (dispatcherAt (t + suc k + n * serverAt d i .budget .ticks))
-          keys′
-          work′
-          (set (set rest i (getD rest i 0 - suc k)) i
-          (getD (set rest i (getD rest i 0 - suc k)) i 0 - n * serverAt d i .budget .ticks))
-          (set postponed i (getD postponed i 0 + cond (eqb (suc k) (serverAt d i .remaining .ticks)) 1 0 + n))
-          cut
-          listed
-          finishes′
-          onward
-      x =
-          travels-then fit v ahead i works is b some k (h .inside) (h .budget) (h .time) jobs′ ended′ spare n
-          (omega (arith, its-rest, h .of-job))
-          (h .room)
-          (h .further)
-          (h .set-now)
-
-  to-horizon : t + suc k ≤ w .horizon .tick
-  to-horizon = omega (arith, h .time, next-horizon-le fit v ahead)
-
-  none-before : (a : ℕ) → j ≤ a → a < w .arrivals → t + suc k ≤ w .arrival a .moment .tick
-  none-before = later-than fit v ahead (t + suc k) (h .time)
-
-  -- whole budgets leave some of the job
-  budgets-leave : suc k ≡ getD rest i 0 → gone (serverAt d i) (suc k) n ≡ suc k
-  budgets-leave e = go n (h .further .fits)
-    where
-      go : (m : ℕ) → (0 < m → m * servedFor (serverAt d i) (suc k) .budget .ticks < spare) → suc k + m * serverAt d
-          i .budget .ticks ≡ suc k
+      go : (m : ℕ) → (0 < m → m * spell .after .budget .ticks < p .spare) → m * spell .after .budget .ticks ≤ p .spare
       go zero fits = omega arith
-      go (suc m) fits = let no : ⊥ = omega (arith, fits (omega arith), h .of-job) in absurd no
+      go (suc m) fits = omega (arith, fits (omega arith))
 
-  pub ran-on : (getD rest i 0 ≡ gone (serverAt d i) (suc k) n → ⊥)
-      → Travels w lent ends (t + gone (serverAt d i) (suc k) n) j next (standing d (moment (t + gone (serverAt d i) (suc k) n)) (set (d .servers) i (budgetsOn (servedFor (serverAt d i) (suc k)) n))) keys′ work rest′ postponed′
-      interrupted′
-      list′
-      finishes
-      c′
-  ran-on leaves =
-      finally (ran-jobs fit (v .stands) k to-horizon none-before i picks b some (h .inside) (h .budget) more)
-      (ran-ended fit (v .stands) k to-horizon none-before i picks b some (h .inside) (h .budget) (v .ended) more)
-    where
-      picks : Earliest d (d .count) i
-      picks = pick fit v ahead i works is b some k (h .inside) (h .budget) (h .time)
+  -- Its ticks are m + 1.
+  module _ (m : ℕ) (ticks-are : spell .ticks .ticks ≡ suc m) where
+    abbrev then : ℕ
+    then = h .t + suc m
 
-      more : suc k < getD rest i 0
-      more = go (ℕ-discrete (suc k) (getD rest i 0))
+    to-horizon : then ≤ r .work .horizon .tick
+    to-horizon = omega (arith, p .time, x .ahead .in-time)
+
+    none-before : NoneBefore (r .work) (h .taken) then
+    none-before a l y = omega (arith, p .time, x .ahead .later a l y)
+
+    inside : suc m ≤ left
+    inside = omega (arith, p .inside)
+
+    budget : suc m ≤ s .remaining .ticks
+    budget = omega (arith, p .budget)
+
+    -- After them: the dispatcher, and the book with whatever jobs stand then.
+    abbrev ran : Dispatcher
+    ran = ranFor d i (suc m)
+
+    after-is : servedFor s (suc m) ≡ spell .after
+    after-is = ap (servedFor s) (sym ticks-are) ∙ sym (p .after-is)
+
+    own-then : serverAt ran i ≡ spell .after
+    own-then = getD-set-same (d .servers) i (servedFor s (suc m)) vacant place ∙ after-is
+
+    other-then : (o : ℕ) → (o ≡ i → ⊥) → serverAt ran o ≡ serverAt d o
+    other-then o other = getD-set-other (d .servers) i o (servedFor s (suc m)) vacant other
+
+    abbrev postponedThen : ℕ
+    postponedThen = getD (b .turns .postponed) i 0 + cond (eqb (suc m) (s .remaining .ticks)) 1 0
+
+    abbrev ranBook : JobBook → Book
+    ranBook jobs =
+        book
+        (turnBook (b .turns .keys) (set (b .turns .postponed) i postponedThen)
+        (afterTicks (b .turns .segments) (h .t) i (s .deadline) (spell .after)))
+        jobs
+
+    module _ {jobs : JobBook} (stand : Jobs r then (h .taken) jobs) (of-job : p .spare ≤ getD (jobs .left) i 0) where
+      kept-then : Kept r (here then (h .taken) ran) (ranBook jobs)
+      kept-then =
+          subst
+          (λ (x : Server).
+          Kept r (here then (h .taken) ran)
+          (book
+          (turnBook (b .turns .keys) (set (b .turns .postponed) i postponedThen) (afterTicks (b .turns .segments) (h .t) i (s .deadline) x))
+          jobs))
+          after-is
+          (kept-ran fit (v .kept) m to-horizon none-before i pick (x .some) inside budget stand)
+
+      within-then : Within ran
+      within-then = stands-within fit (kept-then .stands) (omega (arith, to-horizon, fit .horizon))
+
+      -- it goes on for its budgets, each of which it wins
+      abbrev its : Server
+      its = serverAt ran i
+
+      further : Further (b .turns .keys) i its (p .spare) n
+      further = subst⁻¹ (λ (x : Server). Further (b .turns .keys) i x (p .spare) n) own-then (p .further)
+
+      place-then : i < length (ran .servers)
+      place-then = omega (arith, within-then .places, server)
+
+      waits-more : 0 < getD (jobs .left) i 0 → getD (jobs .left) i 0 ≤ its .waiting .ticks
+      waits-more l = job-waiting (stand .each i server) l (kept-then .stands .adds i)
+
+      ends-by : then + n * its .budget .ticks ≤ h .t + room
+      ends-by = omega (arith, ap (λ (x : Server). n * x .budget .ticks) own-then, budgets-spare, p .of-time)
+
+      on-then : Kept r (here (then + n * its .budget .ticks) (h .taken) (ranBudgets ran i n)) (budgetBook (ranBook jobs) then i its n)
+      on-then = go (its .budget .ticks) refl
         where
-          go : Dec (suc k ≡ getD rest i 0) → suc k < getD rest i 0
-          go (yes e) = absurd (leaves (sym e ∙ sym (budgets-leave e)))
-          go (no n) = omega (arith, h .inside)
+          still : (o : ℕ) → o < n → o * its .budget .ticks < its .waiting .ticks
+          still o l =
+              let fits : n * its .budget .ticks < p .spare = further .fits (omega arith) in
+              omega (arith, mul-le-mul-right (its .budget .ticks) l, waits-more (omega arith))
 
-  pub ran-out : w .arrivals ≤ length ends → getD rest i 0 ≡ gone (serverAt d i) (suc k) n → {behind : ℕ}
-      → NextJob w i (suc (getD work i 0)) behind
-      → Travels w lent ends (t + gone (serverAt d i) (suc k) n) j next (standing d (moment (t + gone (serverAt d i) (suc k) n)) (set (d .servers) i (budgetsOn (servedFor (serverAt d i) (suc k)) n))) keys′
-      (set work i behind)
-      rest′
-      postponed′
-      interrupted′
-      list′
-      (set finishes (getD work i 0) (t + gone (serverAt d i) (suc k) n))
-      c′
-  ran-out places e next-one =
-      finally (ran-jobs-ended fit (v .stands) k to-horizon none-before i picks b some (h .inside) (h .budget) all next-one)
-      (subst (λ (u : ℕ). Ended w (t + suc k) ends (set finishes (getD work i 0) u))
-      (ap (λ (m : ℕ). t + m) (sym (budgets-leave all)))
-      (ran-ended-one fit (v .stands) k to-horizon none-before i picks b some (h .inside) (h .budget) places (v .ended) all))
-    where
-      picks : Earliest d (d .count) i
-      picks = pick fit v ahead i works is b some k (h .inside) (h .budget) (h .time)
+          go : (q : ℕ) → its .budget .ticks ≡ q
+              → Kept r (here (then + n * its .budget .ticks) (h .taken) (ranBudgets ran i n)) (budgetBook (ranBook jobs) then i its n)
+          go zero q = let no : ⊥ = omega (arith, within-then .servers i (pick .among) .budget) in absurd no
+          go (suc q) e =
+              on-all fit place-then server q e kept-then n (further .full)
+              (λ o l.
+              wins-picked (b .turns .keys) ran i place-then (pick .among) (within .count)
+              (λ a y other. v .keyed .keys a y ∙ ap (λ (z : Server). keyOf z a) (sym (other-then a other)))
+              o
+              (still o l)
+              (λ a y other. further .wins o a l y other))
+              (λ l. omega (arith, further .fits l))
+              (omega (arith, ends-by, x .ahead .in-time))
+              (λ a l y. omega (arith, ends-by, x .ahead .later a l y))
 
-      all : suc k ≡ getD rest i 0
-      all = go n (h .further .fits) e
+      -- when it is over
+      over-is : here (then + n * its .budget .ticks) (h .taken) (ranBudgets ran i n) ≡ hereAfter h i g
+      unfolding ranBudgets
+      over-is =
+          ap₂ (λ (u c : ℕ). here u (h .taken) (standing d (moment c) (set (ran .servers) i (budgetsOn its n)))) time-is clock-is
+          ∙ ap (λ (l : List Server). here (h .t + g .gone .ticks) (h .taken) (standing d (moment (h .t + g .gone .ticks)) l)) servers-are
         where
-          go : (m : ℕ) → (0 < m → m * servedFor (serverAt d i) (suc k) .budget .ticks < spare)
-              → getD rest i 0 ≡ suc k + m * serverAt d i .budget .ticks → suc k ≡ getD rest i 0
-          go zero fits q = omega arith
-          go (suc m) fits q =
-              let no : ⊥
-              = omega (
+          time-is : then + n * its .budget .ticks ≡ h .t + g .gone .ticks
+          time-is = omega (arith, gone-is, ap (λ (x : Server). n * x .budget .ticks) own-then)
+
+          clock-is : d .clock .tick + suc m + n * its .budget .ticks ≡ h .t + g .gone .ticks
+          clock-is = omega (arith, time-is, clock-now fit v)
+
+          servers-are : set (ran .servers) i (budgetsOn its n) ≡ set (d .servers) i (g .server)
+          servers-are =
+              set-set (d .servers) i (servedFor s (suc m)) (budgetsOn its n)
+              ∙ ap (set (d .servers) i) (ap (λ (x : Server). budgetsOn x n) own-then ∙ sym (p .last-is) ∙ sym (x .leaves .server-is))
+
+      turns-are : budgetBook (ranBook jobs) then i its n .turns ≡ turnBook (b .turns .keys) (turns .postponed) (turns .segments)
+      turns-are = ap₂ (turnBook (b .turns .keys)) postponed-are segments-are
+        where
+          postponed-are : set (set (b .turns .postponed) i postponedThen) i (getD (set (b .turns .postponed) i postponedThen) i 0 + n)
+              ≡ turns .postponed
+          postponed-are =
+              set-set (b .turns .postponed) i postponedThen (getD (set (b .turns .postponed) i postponedThen) i 0 + n)
+              ∙ ap (set (b .turns .postponed) i)
+              (omega (
                 arith,
-                fits (omega arith),
-                h .of-job,
-                ap (λ (l : Length). suc m * l .ticks) (served-budget (serverAt d i) (suc k)),
-              ) in
-              absurd no
+                getD-set-same (b .turns .postponed) i postponedThen 0 (omega (arith, v .kept .counts .places, server)),
+                p .postponed-is,
+                ap {B = ℕ} (λ (k : ℕ). cond (eqb k (s .remaining .ticks)) 1 0) ticks-are,
+              ))
+              ∙ sym (x .leaves .postponed-is)
 
-module _ {w : Work} {lent ends : List ℕ} {t j next : ℕ} {d : Dispatcher}
-    {keys job left postponed interrupted list finishes : List ℕ}
-    {c : Current} (fit : Fit w (length ends))
-    (v : Travels w lent ends t j next d keys job left postponed interrupted list finishes c) (ahead : t < next) (i : ℕ)
-    (server : i < mostServers) (works : getD keys 1 0 ≡ lastTick → ⊥) (is : i ≡ getD keys 1 0 % 64) {work rest : List ℕ}
-    (b : Jobs w t j work rest) (some : 0 < getD rest i 0) {spare n : ℕ} {keys′ rest′ postponed′ interrupted′ list′ : List ℕ}
-    {c′ : Current} where
-  -- where some of the job is left, and where none is
-  pub travels-ran : (r : ℕ) → SpellBooks t next d keys rest postponed interrupted list c i r spare n keys′ rest′ postponed′
-      interrupted′ list′ c′
-      → (getD rest i 0 ≡ gone (serverAt d i) r n → ⊥)
-      → Travels w lent ends (t + gone (serverAt d i) r n) j next (standing d (moment (t + gone (serverAt d i) r n)) (set (d .servers) i (budgetsOn (servedFor (serverAt d i) r) n))) keys′ work rest′ postponed′
-      interrupted′ list′ finishes
-      c′
-  travels-ran zero h leaves = let no : ⊥ = omega (arith, h .some) in absurd no
-  travels-ran (suc k) h leaves = ran-on fit v ahead i server works is b some k h leaves
+          segments-are : turnedOn (afterTicks (b .turns .segments) (h .t) i (s .deadline) (spell .after)) then i its n ≡ turns .segments
+          segments-are =
+              ap₂ (λ (k : ℕ) (x : Server). turnedOn (afterTicks (b .turns .segments) (h .t) i (s .deadline) (spell .after)) (h .t + k) i x n)
+              (sym ticks-are)
+              own-then
+              ∙ sym (x .leaves .segments-is)
 
-  pub travels-ended : (r : ℕ)
-      → SpellBooks t next d keys rest postponed interrupted list c i r spare n keys′ rest′ postponed′ interrupted′ list′ c′
-      → w .arrivals ≤ length ends → getD rest i 0 ≡ gone (serverAt d i) r n → {behind : ℕ} → NextJob w i (suc (getD work i 0)) behind
-      → Travels w lent ends (t + gone (serverAt d i) r n) j next (standing d (moment (t + gone (serverAt d i) r n)) (set (d .servers) i (budgetsOn (servedFor (serverAt d i) r) n))) keys′
-      (set work i behind) rest′
-      postponed′
-      interrupted′
-      list′
-      (set finishes (getD work i 0) (t + gone (serverAt d i) r n))
-      c′
-  travels-ended zero h places e next-one = let no : ⊥ = omega (arith, h .some) in absurd no
-  travels-ended (suc k) h places e next-one = ran-out fit v ahead i server works is b some k h places e next-one
+      -- the tree
+      keyed-over : Keyed (turns .keys) (hereAfter h i g .dispatcher)
+      keyed-over =
+          keyed-set i (v .keyed) (λ a other. getD-set-other (d .servers) i a (g .server) vacant other)
+          (subst (Set (b .turns .keys) (turns .keys) i) key-is (x .leaves .set-now))
+        where
+          key-is : spell .key ≡ keyOf (serverAt (hereAfter h i g .dispatcher) i) i
+          key-is =
+              p .key-is
+              ∙ ap (λ (x : Server). keyOf x i) (sym (x .leaves .server-is) ∙ sym (getD-set-same (d .servers) i (g .server) vacant place))
+
+      went-so : {after : JobBook}
+          → jobBook (jobs .job) (set (jobs .left) i (getD (jobs .left) i 0 - n * spell .after .budget .ticks)) (jobs .finishes) ≡ after
+          → Travels r (hereAfter h i g) (book turns after)
+      went-so {after} jobs-are =
+          record {
+            kept =
+                kept-keys (turns .keys)
+                (subst₂ (Kept r) over-is
+                (ap₂ book turns-are (ap (λ (y : Server). jobBook (jobs .job) (leftAfter y) (jobs .finishes)) own-then ∙ jobs-are))
+                on-then);
+            horizon = omega (arith, gone-is, budgets-spare, p .of-time, x .ahead .in-time);
+            keyed = keyed-over;
+          }
+        where
+          leftAfter : Server → List ℕ
+          leftAfter y = set (jobs .left) i (getD (jobs .left) i 0 - n * y .budget .ticks)
+
+    -- what is left of the job after the ticks
+    abbrev pub leftThen : List ℕ
+    leftThen = set (b .jobs .left) i (left - suc m)
+
+    pub its-left : getD leftThen i 0 ≡ left - suc m
+    its-left = getD-set-same (b .jobs .left) i (left - suc m) 0 (omega (arith, v .kept .jobs .left-places, server))
+
+    of-job : p .spare ≤ getD leftThen i 0
+    of-job = omega (arith, its-left, p .of-job)
+
+    -- something is left
+    pub spell-ran : suc m < left → {after : JobBook}
+        → jobBook (b .jobs .job) (set leftThen i (getD leftThen i 0 - n * spell .after .budget .ticks)) (b .jobs .finishes) ≡ after
+        → Travels r (hereAfter h i g) (book turns after)
+    spell-ran more = went-so (ran-jobs fit (v .kept) m to-horizon none-before i pick (x .some) inside budget more) of-job
+
+    -- or nothing, and the next job stands behind it
+    pub spell-ended : r .work .arrivals ≤ length (r .finishes) → suc m ≡ left → {next : ℕ}
+        → NextJob (r .work) i (suc (getD (b .jobs .job) i 0)) next → {after : JobBook}
+        → jobBook (set (b .jobs .job) i next) (set leftThen i (getD leftThen i 0 - n * spell .after .budget .ticks))
+        (set (b .jobs .finishes) (getD (b .jobs .job) i 0) then)
+        ≡ after
+        → Travels r (hereAfter h i g) (book turns after)
+    spell-ended long all follows =
+        went-so (ran-jobs-ended fit (v .kept) m to-horizon none-before i pick (x .some) inside budget long all follows) of-job

@@ -1,14 +1,15 @@
 -- The segments of a run at moment t: those that ended, and the stretch that it is in.
 use Prim.Native.Nat.{ℕ, suc, _+_, _≤_, _<_}
 use borrow.Author.Tests.{eqb-true, eq-eqb}
-use lib.Dec.{eqb, ltb}
-use lib.ListN.{length, getD, set, length-set, replicate, length-replicate, getD-replicate, List·getD-eq-default}
-use mathlib.Core.Bool.{Bool, true, false, cond, _&&_}
+use lib.Dec.{eqb}
+use lib.ListN.{length, getD, replicate, length-replicate, getD-replicate, List·getD-eq-default}
+use mathlib.Core.Bool.{Bool, true, false}
 use mathlib.Core.List.{List}
 use mathlib.Core.Path.{_≡_, refl, sym, _∙_, ap, ap₂, subst, subst⁻¹}
 use native.Mathlib.Decide.{decLt}
 use native.Mathlib.Omega.{arith}
-use Rattle.clock.specs.Clock.{moment}
+use Rattle.clock.specs.Clock.{moment, ticks}
+use Rattle.clock.specs.declared.Length.{Length}
 use Rattle.clock.specs.declared.Moment.{Moment}
 use Rattle.counting.proofs.TestLaws.{and-left, and-right, and-both, not-both}
 use Rattle.history.specs.Choice.{nobody, given}
@@ -21,42 +22,40 @@ use Rattle.trace.specs.Ticks.{sumOver}
 use Rattle.trace.specs.Trace.{begun, trace}
 use Rattle.workfile.specs.Work.{Work}
 use Rattle.books.specs.declared.Current.{Current}
-use Rattle.books.proofs.stretches.Stretches.{chosen, chosen-server, chosen-nobody, Stretch, stretch-start, stretch-on, stretch-new, Segments, segments-start, segments-end, Interrupted, interrupted-end, interruptedAfter}
-use Rattle.books.proofs.stretches.Turns.{stays, currentThen, traceThen, interruptedThen}
+use Rattle.books.proofs.Book.{Run, lentIn, SegmentBook, segmentBook, withWaits}
+use Rattle.books.proofs.stretches.Interruptions.{Interrupted, interrupted-end, interrupted-length}
+use Rattle.books.proofs.stretches.Segments.{Segments, segments-lent, segments-end}
+use Rattle.books.proofs.stretches.Stretches.{chosen, chosenIn, chosen-server, chosen-nobody, InStretch, stretch-start, stretch-on, stretch-new}
+use Rattle.books.proofs.stretches.Turns.{stays, turned, turned-stays, turned-ends, after-most, Bounded}
 
-pub record Segmented (w : Work) (lent list interrupted : List ℕ) (c : Current) (t : ℕ) : Type 0 where
-  pub stretch : Stretch w (c .start .tick) t (chosen (c .server) (c .deadline))
-  pub segments : Segments w lent list (c .count) (c .start .tick)
-  pub cut : Interrupted w interrupted (c .start .tick)
-  pub places : length interrupted ≡ mostServers
-  pub waiting : c .server < mostServers → c .waits ≡ waitingAt w (c .server) t
+pub record Segmented (r : Run) (b : SegmentBook) (t : ℕ) : Type 0 where
+  pub stretch : InStretch (r .work) (b .current .start .tick) t (chosenIn (b .current))
+  pub segments : Segments r (b .list) (b .current .count) (b .current .start .tick)
+  -- in k ticks at most k segments end
+  pub few : r .lentAt + b .current .count ≤ t
+  pub cut : Interrupted (r .work) (b .interrupted) (b .current .start .tick)
+  pub places : length (b .interrupted) ≡ mostServers
+  pub waiting : b .current .server < mostServers → b .current .waits .ticks ≡ waitingAt (r .work) (b .current .server) t
   -- nobody is always told alike
-  pub alike : mostServers ≤ c .server → (c .server ≡ mostServers) × (c .deadline .tick ≡ 0)
+  pub alike : mostServers ≤ b .current .server → (b .current .server ≡ mostServers) × (b .current .deadline .tick ≡ 0)
 
 -- nobody, from the start on
 abbrev pub atRest : Current
-atRest = record { start = moment 0; server = mostServers; deadline = moment 0; waits = 0; count = 0 }
+atRest = record { start = moment 0; server = mostServers; deadline = moment 0; waits = ticks 0; count = 0 }
 
-pub segmented-start : (w : Work) (lent : List ℕ) → Segmented w lent lent (replicate mostServers 0) atRest 0
+pub segmented-start : (w : Work) (list finishes : List ℕ)
+    → Segmented (lentIn w 0 atRest list finishes) (segmentBook list (replicate mostServers 0) atRest) 0
 unfolding begun howMany sumOver
-segmented-start w lent =
+segmented-start w list finishes =
     record {
-      stretch = subst⁻¹ (Stretch w 0 0) (chosen-nobody mostServers (moment 0) (omega arith)) (stretch-start w);
-      segments = segments-start w lent;
+      stretch = subst⁻¹ (InStretch w 0 0) (chosen-nobody mostServers (moment 0) (omega arith)) (stretch-start w);
+      segments = segments-lent w 0 atRest list finishes;
+      few = omega arith;
       cut = λ j b. getD-replicate mostServers j 0 0 b;
       places = length-replicate {A = ℕ} mostServers 0;
       waiting = λ b. let no : ⊥ = omega arith in absurd no;
       alike = λ b. (refl, refl);
     }
-
--- an interruption changes no length
-interrupted-length : (i waits : ℕ) (list : List ℕ) → length (interruptedAfter i waits list) ≡ length list
-unfolding interruptedAfter
-interrupted-length i waits list = go (ltb i mostServers && ltb 0 waits)
-  where
-    go : (b : Bool) → length (cond b (set list i (getD list i 0 + 1)) list) ≡ length list
-    go true = simp length-set
-    go false = refl
 
 -- a tick that goes on with a stretch has its server and its deadline
 stays-same : (c : Current) (i : ℕ) (d : Moment) → stays c i d ≡ true → (c .server ≡ i) × (c .deadline ≡ d)
@@ -66,18 +65,17 @@ stays-same c i d e = (
   ap moment (eqb-true (c .deadline .tick) (d .tick) (and-right (eqb (c .server) i) (eqb (c .deadline .tick) (d .tick)) e)),
 )
 
-abbrev pub withWaits : Current → ℕ → Current
-withWaits c n = record { start = c .start; server = c .server; deadline = c .deadline; waits = n; count = c .count }
+module _ {r : Run} {b : SegmentBook} {t : ℕ} (s : Segmented r b t) where
+  abbrev w : Work
+  w = r .work
 
-module _ {w : Work} {lent list interrupted : List ℕ} {c : Current} {t : ℕ} (s : Segmented w lent list interrupted c t) where
-  pub segmented-count : c .count ≤ t
-  segmented-count =
-      omega (arith, s .segments .count-is, begun-few (history w) (c .start .tick) (c .start .tick), s .stretch .from)
+  abbrev c : Current
+  c = b .current
 
-  pub segmented-cut : (j : ℕ) → getD interrupted j 0 ≤ t
+  segmented-cut : (j : ℕ) → getD (b .interrupted) j 0 ≤ t
   segmented-cut j = go (decLt j mostServers)
     where
-      go : Dec (j < mostServers) → getD interrupted j 0 ≤ t
+      go : Dec (j < mostServers) → getD (b .interrupted) j 0 ≤ t
       go (yes l) =
           omega (
             arith,
@@ -86,13 +84,22 @@ module _ {w : Work} {lent list interrupted : List ℕ} {c : Current} {t : ℕ} (
             begun-few (history w) (c .start .tick) (c .start .tick),
             s .stretch .from,
           )
-      go (no l) = omega (arith, List·getD-eq-default interrupted 0 {n = j} (omega (arith, s .places)))
+      go (no l) = omega (arith, List·getD-eq-default (b .interrupted) 0 {n = j} (omega (arith, s .places)))
+
+  pub segmented-bounded : Bounded t t b
+  segmented-bounded =
+      record {
+        from = s .stretch .from;
+        counted = omega (arith, s .few);
+        cut = segmented-cut;
+        places = s .places;
+      }
 
   -- the next k + 1 ticks are all given to server i under deadline d, or to nobody
-  module _ (k i waits : ℕ) (d : Moment) (nobody-is : mostServers ≤ i → (i ≡ mostServers) × (d .tick ≡ 0))
+  module _ (k i : ℕ) (waits : Length) (d : Moment) (nobody-is : mostServers ≤ i → (i ≡ mostServers) × (d .tick ≡ 0))
       (all : (q : ℕ) → q < suc k → history w (t + q) ≡ chosen i d)
-      (waiting : i < mostServers → waits ≡ waitingAt w i (t + suc k)) where
-    differ : stays c i d ≡ false → chosen (c .server) (c .deadline) ≡ chosen i d → ⊥
+      (waiting : i < mostServers → waits .ticks ≡ waitingAt w i (t + suc k)) where
+    differ : stays c i d ≡ false → chosenIn c ≡ chosen i d → ⊥
     unfolding stays
     differ e q = go (decLt (c .server) mostServers) (decLt i mostServers)
       where
@@ -120,32 +127,33 @@ module _ {w : Work} {lent list interrupted : List ℕ} {c : Current} {t : ℕ} (
             let is = nobody-is (omega arith) in
             never (was .0 ∙ sym (is .0)) (was .1 ∙ sym (is .1))
 
-    pub segmented-then :
-        Segmented w lent (traceThen c t i d list) (interruptedThen c i d interrupted) (withWaits (currentThen c t i d) waits) (t + suc k)
-    unfolding traceThen interruptedThen currentThen
+    pub segmented-then : Segmented r (withWaits (turned b t i d) waits) (t + suc k)
     segmented-then = go (stays c i d) refl
       where
-        go : (b : Bool) → stays c i d ≡ b
-            → Segmented w lent (traceThen c t i d list) (interruptedThen c i d interrupted) (withWaits (currentThen c t i d) waits) (t + suc k)
-        go true e = rw e (goes-on (stays-same c i d e))
-          where
-            goes-on : (c .server ≡ i) × (c .deadline ≡ d) → Segmented w lent list interrupted (withWaits c waits) (t + suc k)
-            goes-on (a, b) =
-                record {
-                  stretch = stretch-on (s .stretch) k (λ q l. all q l ∙ ap₂ chosen (sym a) (sym b));
-                  segments = s .segments;
-                  cut = s .cut;
-                  places = s .places;
-                  waiting = λ l. waiting (subst (λ (n : ℕ). n < mostServers) a l) ∙ ap (λ (n : ℕ). waitingAt w n (t + suc k)) (sym a);
-                  alike = s .alike;
-                }
+        goes-on : (c .server ≡ i) × (c .deadline ≡ d) → Segmented r (withWaits b waits) (t + suc k)
+        goes-on (a, b) =
+            record {
+              stretch = stretch-on (s .stretch) k (λ q l. all q l ∙ ap₂ chosen (sym a) (sym b));
+              segments = s .segments;
+              few = omega (arith, s .few);
+              cut = s .cut;
+              places = s .places;
+              waiting = λ l. waiting (subst (λ (n : ℕ). n < mostServers) a l) ∙ ap (λ (n : ℕ). waitingAt w n (t + suc k)) (sym a);
+              alike = s .alike;
+            }
+
+        go : (x : Bool) → stays c i d ≡ x → Segmented r (withWaits (turned b t i d) waits) (t + suc k)
+        go true e =
+            subst⁻¹ (λ (x : SegmentBook). Segmented r (withWaits x waits) (t + suc k)) (turned-stays b t i d e)
+            (goes-on (stays-same c i d e))
         go false e =
-            rw e
+            subst⁻¹ (λ (x : SegmentBook). Segmented r (withWaits x waits) (t + suc k)) (turned-ends b t i d e)
             record {
               stretch = stretch-new (s .stretch) k (chosen i d) (differ e) all;
-              segments = segments-end (c .server) (c .deadline) (s .stretch) (s .segments);
-              cut = interrupted-end interrupted (c .server) (c .waits) (c .deadline) (s .places) (s .stretch) (s .waiting) (s .cut);
-              places = interrupted-length (c .server) (c .waits) interrupted ∙ s .places;
+              segments = segments-end c (s .stretch) (s .segments);
+              few = omega (arith, after-most c, s .few);
+              cut = interrupted-end (b .interrupted) c (s .places) (s .stretch) (s .waiting) (s .cut);
+              places = interrupted-length c (b .interrupted) ∙ s .places;
               waiting = waiting;
               alike = nobody-is;
             }

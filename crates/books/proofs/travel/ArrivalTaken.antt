@@ -8,6 +8,8 @@ use native.Mathlib.Decide.{decLt}
 use native.Mathlib.Nat.{le-refl, le-antisymm}
 use native.Mathlib.Omega.{arith}
 use Rattle.arrival.specs.declared.Arrival.{Arrival}
+use Rattle.clock.specs.declared.Length.{Length}
+use Rattle.clock.specs.declared.Moment.{Moment}
 use Rattle.dispatcher.specs.Moves.{standing}
 use Rattle.dispatcher.specs.Pick.{serverAt}
 use Rattle.dispatcher.specs.declared.Dispatcher.{Dispatcher}
@@ -16,19 +18,27 @@ use Rattle.server.specs.Moves.{arrived}
 use Rattle.server.specs.Ranges.{Ranged}
 use Rattle.server.specs.Server.{vacant}
 use Rattle.server.specs.declared.Server.{Server}
-use Rattle.sizes.specs.Sizes.{clockEnd, mostWaiting}
+use Rattle.sizes.specs.Sizes.{clockEnd, mostServers, mostWaiting}
 use Rattle.workfile.specs.Work.{Work}
-use Rattle.books.proofs.Accepted.{nextMoment, next-arrival, next-horizon}
+use Rattle.books.proofs.Accepted.{nextStop, stop-arrival, stop-behind, stop-until}
+use Rattle.books.proofs.Book.{Here, here}
 use Rattle.books.proofs.tree.Keys.{keyOf, Keyed, keyed-set}
 use Rattle.books.proofs.travel.Stands.{Stands, stands-within, stands-count, room, accepted-as, stands-arrival}
-use Rattle.books.proofs.tree.Winners.{Set}
+use Rattle.books.proofs.tree.Winners.{Winners, Set}
 
--- What is known of arrival a, which is the next and is taken now: its server has a place, its numbers are in their ranges and have room for
--- the work; and with that server as it is then the dispatcher stands behind the arrival, and a tree in which its key is set is that dispatcher's.
+-- what a server may rely on that takes work at t: it has a place in the tree, its numbers are in their ranges, and it has room for the work
+pub record MayTake (keys : List ℕ) (i : ℕ) (s : Server) (t : Moment) (cost : Length) : Type 0 where
+  pub place : i < mostServers
+  pub winners : Winners keys
+  pub ranged : Ranged t s
+  pub time : t .tick ≤ clockEnd
+  pub room : s .waiting .ticks + cost .ticks ≤ mostWaiting
+
+-- What is known of arrival a, which is the next and is taken now: its server may take it; and with that server as it is then the dispatcher
+-- stands behind the arrival, and a tree in which its key is set is that dispatcher's.
 pub record Takes (w : Work) (t j : ℕ) (d : Dispatcher) (a : Arrival) : Type 0 where
   pub place : a .server < 64
-  pub ranged : Ranged (d .clock) (serverAt d (a .server))
-  pub has-room : serverAt d (a .server) .waiting .ticks + a .cost .ticks ≤ mostWaiting
+  pub may : {keys : List ℕ} → Winners keys → MayTake keys (a .server) (serverAt d (a .server)) (d .clock) (a .cost)
   pub stands : (s : Server) → s ≡ arrived (serverAt d (a .server)) (d .clock) (a .cost)
       → Stands w t (suc j) (standing d (d .clock) (set (d .servers) (a .server) s))
   pub keyed : {keys after : List ℕ} (s : Server) → Keyed keys d → Set keys after (a .server) (keyOf s (a .server))
@@ -46,10 +56,16 @@ module _ {w : Work} {places t j : ℕ} {d : Dispatcher} (fit : Fit w places) (s 
   takes =
       record {
         place = omega (arith, known, stands-within fit s end .count);
-        ranged = stands-within fit s end .servers (a .server) known;
-        has-room =
-            subst⁻¹ (λ (x : Arrival). serverAt d (x .server) .waiting .ticks + x .cost .ticks ≤ mostWaiting) read
-            (room fit s end more now);
+        may = λ winners.
+            record {
+              place = omega (arith, known, stands-within fit s end .count);
+              winners = winners;
+              ranged = stands-within fit s end .servers (a .server) known;
+              time = stands-within fit s end .clock;
+              room =
+                  subst⁻¹ (λ (x : Arrival). serverAt d (x .server) .waiting .ticks + x .cost .ticks ≤ mostWaiting) read
+                  (room fit s end more now);
+            };
         stands = λ server is.
             subst⁻¹ (Stands w t (suc j))
             (ap (λ (x : Server). standing d (d .clock) (set (d .servers) (a .server) x)) is
@@ -63,27 +79,31 @@ module _ {w : Work} {places t j : ℕ} {d : Dispatcher} (fit : Fit w places) (s 
             key-set);
       }
 
--- while they are taken: from j on to k, with the moment of the next
-pub record Taking (w : Work) (t j : ℕ) (d : Dispatcher) (keys : List ℕ) (k next : ℕ) : Type 0 where
-  pub stands : Stands w t k d
-  pub keyed : Keyed keys d
-  pub from : j ≤ k
-  pub next-is : next ≡ nextMoment w k
+-- while they are taken: from where the run stood on to here, with how far it then goes at most
+pub record Taking (w : Work) (until : ℕ) (from h : Here) (keys : List ℕ) (next : ℕ) : Type 0 where
+  pub same-moment : h .t ≡ from .t
+  pub stands : Stands w (h .t) (h .taken) (h .dispatcher)
+  pub keyed : Keyed keys (h .dispatcher)
+  pub later : from .taken ≤ h .taken
+  pub next-is : next ≡ nextStop w until (h .taken)
 
--- Where the next moment is due before the horizon, there is an arrival of it, and that is taken.
-module _ {w : Work} {t j k next : ℕ} {d : Dispatcher} {keys : List ℕ} (g : Taking w t j d keys k next) (horizon : t < w .horizon .tick)
-    (due : next ≤ t) where
-  pub due-here : k < w .arrivals
-  due-here = go (decLt k (w .arrivals))
+pub next-by : {w : Work} {until : ℕ} {from h : Here} {keys : List ℕ} {next : ℕ} → Taking w until from h keys next → next ≤ until
+next-by {w} {until} {h = h} g = omega (arith, g .next-is, stop-until w until (h .taken))
+
+-- Where the next stop is no later than now, and the run is to go on, there is an arrival of this moment, and that is taken.
+module _ {w : Work} {until : ℕ} {from h : Here} {keys : List ℕ} {next : ℕ} (g : Taking w until from h keys next) (ahead : h .t < until)
+    (due : next ≤ h .t) where
+  pub due-here : h .taken < w .arrivals
+  due-here = go (decLt (h .taken) (w .arrivals))
     where
-      go : Dec (k < w .arrivals) → k < w .arrivals
-      go (yes b) = b
-      go (no b) = let no : ⊥ = omega (arith, g .next-is, next-horizon w k (omega arith)) in absurd no
+      go : Dec (h .taken < w .arrivals) → h .taken < w .arrivals
+      go (yes l) = l
+      go (no l) = let no : ⊥ = omega (arith, g .next-is, stop-behind w until (h .taken) (omega arith)) in absurd no
 
-  pub due-now : w .arrival k .moment .tick ≤ t
-  due-now = omega (arith, g .next-is, next-arrival w k due-here)
+  pub due-now : w .arrival (h .taken) .moment .tick ≤ h .t
+  due-now = omega (arith, g .next-is, stop-arrival w until (h .taken) due-here)
 
-  pub taking-more : {after : List ℕ} {e : Dispatcher} {then : ℕ} → Stands w t (suc k) e → Keyed after e → then ≡ nextMoment w (suc k)
-      → Taking w t j e after (suc k) then
+  pub taking-more : {after : List ℕ} {e : Dispatcher} {then : ℕ} → Stands w (h .t) (suc (h .taken)) e → Keyed after e
+      → then ≡ nextStop w until (suc (h .taken)) → Taking w until from (here (h .t) (suc (h .taken)) e) after then
   taking-more stands keyed is =
-      record { stands = stands; keyed = keyed; from = omega (arith, g .from); next-is = is }
+      record { same-moment = g .same-moment; stands = stands; keyed = keyed; later = omega (arith, g .later); next-is = is }

@@ -9,10 +9,11 @@ use Rattle.sizes.specs.Sizes.{mostServers}
 use Rattle.summary.specs.Summary as summary
 use Rattle.trace.specs.Written.{written}
 use Rattle.workfile.specs.Work.{Work}
+use Rattle.books.specs.declared.Travelled.{Travelled}
 
-pub record AtHorizon (w : Work) (lent ends list finishes : List ℕ) (segments : ℕ) (postponed interrupted : List ℕ) : Type 0 where
+pub record AtHorizon (w : Work) (lent ends list finishes : List ℕ) (r : Travelled) : Type 0 where
   pub list-is : list ≡ written (summary.traceOf w) lent
-  pub segments-is : segments ≡ length (summary.traceOf w)
+  pub segments-is : r .segments ≡ length (summary.traceOf w)
   pub finishes-is : finishes ≡ finishList (w .arrivals) (summary.finishes w) ends
-  pub postponed-is : (i : ℕ) → i < mostServers → getD postponed i 0 ≡ postponedBy w i (w .horizon .tick)
-  pub interrupted-is : (i : ℕ) → i < mostServers → getD interrupted i 0 ≡ summary.interruptedOf w i
+  pub postponed-is : (i : ℕ) → i < mostServers → getD (r .postponed) i 0 ≡ postponedBy w i (w .horizon .tick)
+  pub interrupted-is : (i : ℕ) → i < mostServers → getD (r .interrupted) i 0 ≡ summary.interruptedOf w i

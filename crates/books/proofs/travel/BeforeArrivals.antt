@@ -18,7 +18,7 @@ use Rattle.server.proofs.RangeLaws.{busy-charged}
 use Rattle.sizes.specs.Sizes.{clockEnd}
 use Rattle.workfile.specs.Work.{Work}
 use Rattle.books.proofs.travel.Events.{event-stands, idle-stands}
-use Rattle.books.proofs.travel.Stands.{Stands, stands-start, stands-within, stands-arrival}
+use Rattle.books.proofs.travel.Stands.{NoneBefore, Stands, stands-start, stands-within, stands-arrival}
 
 -- the run stands at moment t, and none of its arrivals is taken yet
 pub record Before (w : Work) (t : ℕ) : Type 0 where
@@ -35,7 +35,7 @@ module _ {w : Work} {places : ℕ} (fit : Fit w places) where
 
     -- the tick of t, all arrivals of t being taken
     module _ {j : ℕ} {d : Dispatcher} (s : Stands w t j d)
-        (later : (a : ℕ) → j ≤ a → a < w .arrivals → t < w .arrival a .moment .tick) where
+        (later : NoneBefore w j (suc t)) where
       stands-next : {e : Dispatcher} → Stands w (t + 1) j e → Before w (suc t)
       stands-next {e} next =
           record {
@@ -45,7 +45,7 @@ module _ {w : Work} {places : ℕ} (fit : Fit w places) where
             earlier = λ a b. omega (arith, s .past a b);
           }
 
-      ahead : (a : ℕ) → j ≤ a → a < w .arrivals → t + 1 ≤ w .arrival a .moment .tick
+      ahead : NoneBefore w j (t + 1)
       ahead a l b = omega (arith, later a l b)
 
       tick-given : Before w (suc t)

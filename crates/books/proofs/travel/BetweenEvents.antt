@@ -1,69 +1,103 @@
 -- What a run may rely on between two events: of the server that is picked, and that no number is too large.
-use Prim.Native.Nat.{ℕ, _%_, _≤_, _<_}
+use Prim.Native.Nat.{ℕ, _+_, _%_, _≤_, _<_}
 use borrow.Author.Tests.{eqb-false}
 use lib.ListN.{length, getD}
-use mathlib.Core.List.{List}
-use mathlib.Core.Path.{_≡_, _∙_, ap, subst⁻¹}
+use mathlib.Core.Path.{_≡_, _∙_, ap}
 use native.Mathlib.Nat.{pos-of-ne-zero}
 use native.Mathlib.Omega.{arith}
 use Rattle.clock.specs.Clock.{lastTick}
+use Rattle.clock.specs.declared.Moment.{Moment}
 use Rattle.dispatcher.specs.Pick.{serverAt, Earliest}
 use Rattle.dispatcher.specs.Within.{Within}
-use Rattle.dispatcher.specs.declared.Dispatcher.{Dispatcher}
 use Rattle.finish.specs.Finish.{finish}
-use Rattle.judgement.proofs.FitLaws.{Fit}
+use Rattle.judgement.proofs.FitLaws.{Fit, in-order-all}
 use Rattle.moments.proofs.PostponedLaws.{postponed-le}
 use Rattle.moments.specs.Moments.{history}
 use Rattle.server.proofs.RangeLaws.{busy-charged}
 use Rattle.server.specs.Ranges.{Ranged}
 use Rattle.sizes.specs.Sizes.{clockEnd, mostServers}
+use Rattle.trace.proofs.WrittenLaws.{written-length}
 use Rattle.workfile.specs.Work.{Work}
+use Rattle.books.proofs.Accepted.{nextStop, stop-arrival, stop-until}
+use Rattle.books.proofs.Book.{Run, Here, Book}
 use Rattle.books.proofs.jobs.FinishList.{finishes-length}
-use Rattle.books.specs.declared.Current.{Current}
-use Rattle.books.proofs.tree.Keys.{root-picked}
-use Rattle.books.proofs.stretches.Segmented.{segmented-count, segmented-cut}
-use Rattle.books.proofs.travel.Stands.{stands-within}
+use Rattle.books.proofs.stretches.Segmented.{segmented-bounded}
+use Rattle.books.proofs.stretches.Turns.{Bounded}
+use Rattle.books.proofs.travel.Stands.{NoneBefore, stands-within, stands-clock}
 use Rattle.books.proofs.travel.Travels.{Travels}
+use Rattle.books.proofs.tree.Keys.{root-picked}
 
-module _ {w : Work} {lent ends : List ℕ} {t j next : ℕ} {d : Dispatcher} {keys job left postponed interrupted list finishes : List ℕ}
-    {c : Current} (fit : Fit w (length ends))
-    (v : Travels w lent ends t j next d keys job left postponed interrupted list finishes c) where
-  pub before-end : t ≤ clockEnd
+-- a moment ahead up to which no arrival comes
+pub record Ahead (w : Work) (h : Here) (stop : ℕ) : Type 0 where
+  pub some : h .t < stop
+  pub in-time : stop ≤ w .horizon .tick
+  pub later : NoneBefore w (h .taken) stop
+
+-- as the next stop is, where that is ahead
+pub stop-ahead : {w : Work} {places until next : ℕ} {h : Here} → Fit w places → next ≡ nextStop w until (h .taken) → h .t < next
+    → until ≤ w .horizon .tick → Ahead w h next
+stop-ahead {w} {until = until} {h = h} fit is some in-time =
+    record {
+      some = some;
+      in-time = omega (arith, is, stop-until w until (h .taken));
+      later = λ a l b. omega (arith, is, stop-arrival w until (h .taken) (omega arith), in-order-all fit (h .taken) a l b);
+    }
+
+module _ {r : Run} {h : Here} {b : Book} (fit : Fit (r .work) (length (r .finishes))) (v : Travels r h b) where
+  pub before-end : h .t ≤ clockEnd
   before-end = omega (arith, v .horizon, fit .horizon)
 
-  pub now-within : Within d
-  now-within = stands-within fit (v .stands) before-end
+  pub now-within : Within (h .dispatcher)
+  now-within = stands-within fit (v .kept .stands) before-end
+
+  pub clock-now : h .dispatcher .clock .tick ≡ h .t
+  clock-now = ap (λ (m : Moment). m .tick) (stands-clock fit (v .kept .stands) before-end)
 
   -- the current stretch and the counts
-  pub started : c .start .tick ≤ t
-  started = v .segmented .stretch .from
+  pub bounded : Bounded clockEnd (h .t) (b .turns .segments)
+  bounded =
+      let x = segmented-bounded (v .kept .segmented) in
+      record {
+        from = x .from;
+        counted = omega (arith, x .counted, before-end);
+        cut = λ j. omega (arith, x .cut j, before-end);
+        places = x .places;
+      }
 
-  pub counted : c .count ≤ t
-  counted = segmented-count (v .segmented)
+  -- in k ticks at most k segments end
+  pub ended-few : r .lentAt + b .turns .segments .current .count ≤ h .t
+  ended-few = v .kept .segmented .few
 
-  pub cut-few : (i : ℕ) → getD interrupted i 0 ≤ t
-  cut-few = segmented-cut (v .segmented)
-
-  pub postponed-few : (i : ℕ) → i < mostServers → getD postponed i 0 ≤ t
-  postponed-few i l = omega (arith, v .counts .each i l, postponed-le w i t)
+  pub postponed-few : (i : ℕ) → i < mostServers → getD (b .turns .postponed) i 0 ≤ clockEnd
+  postponed-few i l = omega (arith, v .kept .counts .each i l, postponed-le (r .work) i (h .t), before-end)
 
   -- the finish list
-  pub finishes-long : length finishes ≡ length ends
-  finishes-long = ap length (v .ended .finishes-is) ∙ finishes-length (w .arrivals) ends (finish w (history w) t)
+  pub finishes-long : length (b .jobs .finishes) ≡ length (r .finishes)
+  finishes-long =
+      ap length (v .kept .jobs .finishes-is)
+      ∙ finishes-length (r .work .arrivals) (r .finishes) (finish (r .work) (history (r .work)) (h .t))
+
+  -- the trace list
+  pub list-long : length (b .turns .segments .list) ≡ length (r .list)
+  list-long =
+      let s = v .kept .segmented .segments in ap length (s .written-is) ∙ written-length (s .since) (r .list)
 
   -- the server that is picked
-  module _ (i : ℕ) (works : getD keys 1 0 ≡ lastTick → ⊥) (is : i ≡ getD keys 1 0 % 64) where
-    earliest : Earliest d (d .count) i
-    earliest = subst⁻¹ (Earliest d (d .count)) is (root-picked (v .keyed) now-within works)
+  module _ (works : getD (b .turns .keys) 1 0 ≡ lastTick → ⊥) where
+    abbrev i : ℕ
+    i = getD (b .turns .keys) 1 0 % 64
+
+    pub earliest : Earliest (h .dispatcher) (h .dispatcher .count) i
+    earliest = root-picked (v .keyed) now-within works
 
     pub picked-server : i < mostServers
     picked-server = omega (arith, earliest .among, now-within .count)
 
-    pub picked-ranged : Ranged (d .clock) (serverAt d i)
+    pub picked-ranged : Ranged (h .dispatcher .clock) (serverAt (h .dispatcher) i)
     picked-ranged = now-within .servers i (earliest .among)
 
-    pub picked-waits : 0 < serverAt d i .waiting .ticks
+    pub picked-waits : 0 < serverAt (h .dispatcher) i .waiting .ticks
     picked-waits = pos-of-ne-zero (eqb-false _ _ (earliest .works))
 
-    pub picked-charged : 0 < serverAt d i .remaining .ticks
+    pub picked-charged : 0 < serverAt (h .dispatcher) i .remaining .ticks
     picked-charged = busy-charged picked-ranged (eqb-false _ _ (earliest .works))

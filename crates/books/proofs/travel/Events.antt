@@ -5,7 +5,6 @@ use lib.Seq.{getD-set-same, getD-set-other}
 use mathlib.Core.Path.{_≡_, sym, _∙_, ap, subst, subst⁻¹}
 use native.Mathlib.Decide.{decLt, ℕ-discrete}
 use native.Mathlib.Omega.{arith}
-use Rattle.clock.specs.Clock.{moment}
 use Rattle.clock.specs.declared.Moment.{Moment}
 use Rattle.dispatcher.specs.Moves.{idled, ranOne}
 use Rattle.dispatcher.specs.Pick.{serverAt, Earliest, NoneWorks}
@@ -25,10 +24,10 @@ use Rattle.server.specs.Server.{vacant}
 use Rattle.server.specs.declared.Server.{Server}
 use Rattle.sizes.specs.Sizes.{clockEnd}
 use Rattle.workfile.specs.Work.{Work}
-use Rattle.books.proofs.travel.Stands.{Stands, stands-within, stands-clock, stands-ready}
+use Rattle.books.proofs.travel.Stands.{NoneBefore, Stands, stands-within, stands-clock, stands-ready}
 
 module _ {w : Work} {places t j : ℕ} {d : Dispatcher} (fit : Fit w places) (s : Stands w t j d) (k : ℕ) (end : t + suc k ≤ clockEnd)
-    (later : (a : ℕ) → j ≤ a → a < w .arrivals → t + suc k ≤ w .arrival a .moment .tick) where
+    (later : NoneBefore w j (t + suc k)) where
   is-ready : d ≡ ready w t
   is-ready = stands-ready fit s (omega arith) (λ a l b. omega (arith, later a l b))
 

@@ -37,12 +37,16 @@ use Rattle.sizes.specs.Sizes.{clockEnd, mostCost, mostServers, mostWaiting}
 use Rattle.workfile.specs.Work.{Work}
 use Rattle.books.proofs.jobs.Jobs.{work-none, work-own, work-other}
 
+-- none of the arrivals from j on comes before u
+abbrev pub NoneBefore : Work → ℕ → ℕ → Type 0
+NoneBefore w j u = (a : ℕ) → j ≤ a → a < w .arrivals → u ≤ w .arrival a .moment .tick
+
 -- all arrivals before j are of t or earlier, all others of t or later; and what was served and what waits is what arrived
 pub record Stands (w : Work) (t j : ℕ) (d : Dispatcher) : Type 0 where
   pub taken-is : d ≡ taken w j (atMoment w t)
   pub count : j ≤ w .arrivals
   pub past : (a : ℕ) → a < j → w .arrival a .moment .tick ≤ t
-  pub ahead : (a : ℕ) → j ≤ a → a < w .arrivals → t ≤ w .arrival a .moment .tick
+  pub ahead : NoneBefore w j t
   pub adds : (i : ℕ) → ticksServed (history w) i t + serverAt d i .waiting .ticks ≡ workOf w i j
 
 -- at the start nothing waits
@@ -166,7 +170,7 @@ module _ {w : Work} {places : ℕ} (fit : Fit w places) where
               )
 
     -- where none is left of this moment
-    pub stands-ready : ((a : ℕ) → j ≤ a → a < w .arrivals → t < w .arrival a .moment .tick) → d ≡ ready w t
+    pub stands-ready : NoneBefore w j (suc t) → d ≡ ready w t
     unfolding ready
     stands-ready later =
         s .taken-is

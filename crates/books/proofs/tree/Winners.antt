@@ -22,6 +22,12 @@ pub record Winners (tree : List ℕ) : Type 0 where
   pub places : length tree ≡ 128
   pub lesser : (p : ℕ) → 1 ≤ p → p < 64 → Lesser tree p
 
+-- server i has a place in the tree, and the two halves of the servers stand so many levels above their keys
+pub record Leaf (tree : List ℕ) (i levels : ℕ) : Type 0 where
+  pub place : i < 64
+  pub winners : Winners tree
+  pub halves : levels < 6
+
 -- q and s are the two places below the place q / 2
 abbrev pub Beside : ℕ → ℕ → Type 0
 Beside q s = q + s ≡ 4 * (q / 2) + 1

@@ -46,15 +46,15 @@ fits-in-requires c κs = search needs
 
 returns-5 : tie.Need-returns-5
 returns-5 c =
-    let start = c .before .before .before .before .before .before .before .before .before .before .before .before in
-    further-some _ _ _ _ (start .pre .1 .1 .0) (c .before .before .before .before .before .before .if2 .left) (c .before .before .before .before .rival .ensures) (c .before .before .rises .ensures) (c .before .fits-in .ensures)
+    let start = c .before .before .before .before .before .before .before .before .before .before .before .before .before in
+    further-some _ _ _ _ (start .pre .1) (c .before .before .before .before .before .before .before .if2 .left) (c .before .before .before .before .rival .ensures) (c .before .before .rises .ensures) (c .before .fits-in .ensures)
     (omega arith)
     (omega arith)
 
 returns-6 : tie.Need-returns-6
 returns-6 c =
-    let start = c .before .before .before .before .before .before .before .before .before .before .before .before in
-    further-some _ _ _ _ (start .pre .1 .1 .0) (c .before .before .before .before .before .before .if2 .left) (c .before .before .before .before .rival .ensures) (c .before .before .rises .ensures) (c .before .fits-in .ensures)
+    let start = c .before .before .before .before .before .before .before .before .before .before .before .before .before in
+    further-some _ _ _ _ (start .pre .1) (c .before .before .before .before .before .before .before .if2 .left) (c .before .before .before .before .rival .ensures) (c .before .before .rises .ensures) (c .before .fits-in .ensures)
     (omega arith)
     (omega arith)
 

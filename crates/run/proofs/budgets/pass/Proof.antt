@@ -3,13 +3,13 @@ use Prim.Native.Nat.{ℕ, suc, _+_, _-_, _*_, _/_, _≤_, _<_}
 use borrow.Author.Needs.{needs}
 use lib.ListN.{length, getD, set}
 use mathlib.Core.List.{List}
-use mathlib.Core.Path.{_≡_, sym, _∙_, ap, ap₂}
-use native.Mathlib.Nat.{le-mul-of-pos-right, mul-le-mul-right}
+use mathlib.Core.Path.{_≡_, sym, _∙_, ap, ap₂, subst}
 use native.Mathlib.Omega.{arith}
-use Rattle.books.proofs.budgets.BudgetLaws.{on-count, on-above}
-use Rattle.books.proofs.budgets.Budgets.{currentOn, traceOn, interruptedOn}
-use Rattle.books.specs.declared.Current.{Current}
-use Rattle.books.proofs.budgets.Skipped.{lastOf, counted-least, cut-length, skipped-current, skipped-list, skipped-cut}
+use Rattle.books.proofs.Book.{SegmentBook, segmentBook, segments-same}
+use Rattle.books.proofs.budgets.BudgetLaws.{budgets-few, budgets-less, on-bounded}
+use Rattle.books.proofs.budgets.Budgets.{turnedOn, BudgetsFrom}
+use Rattle.books.proofs.budgets.Skipped.{lastOf, counted-least, skipped}
+use Rattle.books.proofs.stretches.Turns.{Bounded}
 use Rattle.sizes.specs.Sizes.{clockEnd}
 use Rattle.run.proofs.budgets.pass.Statement.{statement}
 use Rattle.run.proofs.budgets.pass.Tie as tie
@@ -22,13 +22,7 @@ lesser-requires c κs = search needs
 
 pass-each-requires : tie.Need-pass-each-requires
 pass-each-requires c κs =
-    let a = c .before .before .before .before .before .args in
-    let pre = c .before .before .before .before .before .pre .1 .1 in
-    let within : c .before .before .lesser .result ≤ a .n = omega (arith, c .before .before .lesser .ensures) in
-    let less = mul-le-mul-right (a .s .budget .ticks) within in (
-      pre .0,
-      (omega (arith, less, pre .1 .0), (omega (arith, less, pre .1 .1 .0), pre .1 .1 .1)),
-    )
+    (budgets-less (c .before .before .lesser .result) (omega (arith, c .before .before .lesser .ensures)) (c .before .before .before .before .before .pre .0), c .before .before .before .before .before .pre .1)
 
 same-length : tie.Need-same-length
 same-length c = search needs
@@ -36,32 +30,32 @@ same-length c = search needs
 returns : tie.Need-returns
 returns c =
     let a = c .before .before .before .before .before .before .before .before .before .args in
-    let each = c .before .before .before .pass-each .ensures in (
-      each .0 ∙ ap (currentOn (a .c) (a .t) (a .i) (a .s)) (c .if1 .taken),
-      (
-        each .1 .0 ∙ ap (λ (k : ℕ). traceOn (a .c) (a .t) (a .i) (a .s) k (a .list .now)) (c .if1 .taken),
-        each .1 .1 ∙ ap (λ (k : ℕ). interruptedOn (a .c) (a .t) (a .i) (a .s) k (a .interrupted .now)) (c .if1 .taken),
-      ),
-    )
+    c .before .before .before .pass-each .ensures
+    ∙ ap (turnedOn (segmentBook (a .list .now) (a .interrupted .now) (a .c)) (a .t .tick) (a .i) (a .s)) (c .if1 .taken)
 
 sub-skipped : tie.Need-sub-skipped
 sub-skipped c = search needs
 
--- there are no more budgets than ticks in them
-few : (c : tie.Else1) → c .before .before .before .before .before .before .before .before .before .args .n ≤ clockEnd
-few c =
-    omega (
-      arith,
-      le-mul-of-pos-right (c .before .before .before .before .before .before .before .before .before .args .n) (c .before .before .before .before .before .before .before .before .before .pre .1 .1 .0 .budget),
-      c .before .before .before .before .before .before .before .before .before .pre .1 .1 .1 .0,
-    )
+-- Some are skipped: the segments before, how many budgets are written, and how they stand after these.
+abbrev before : tie.Else1 → SegmentBook
+before c = let a = c .before .before .before .before .before .before .before .before .before .args in segmentBook (a .list .now) (a .interrupted .now) (a .c)
 
--- some are skipped, and the list is full then
-some : (c : tie.Else1) → c .before .before .before .before .before .before .lesser .result < c .before .before .before .before .before .before .before .before .before .args .n
+abbrev written : tie.Else1 → ℕ
+written c = c .before .before .before .before .before .before .lesser .result
+
+may : (c : tie.Else1) → let a = c .before .before .before .before .before .before .before .before .before .args in BudgetsFrom (a .t .tick) (a .i) (a .s) (a .n)
+may c = c .before .before .before .before .before .before .before .before .before .pre .0
+
+some : (c : tie.Else1) → written c < c .before .before .before .before .before .before .before .before .before .args .n
 some c = let other = c .if1 .left in omega (arith, c .before .before .before .before .before .before .lesser .ensures)
 
-shown : (c : tie.Else1) → 1 ≤ c .before .before .before .before .before .before .lesser .result
-shown c = omega (arith, c .before .before .before .before .before .before .lesser .ensures, c .before .before .before .before .before .before .before .until-full .ensures .0, some c)
+one : (c : tie.Else1) → 1 ≤ written c
+one c = omega (arith, c .before .before .before .before .before .before .lesser .ensures, c .before .before .before .before .before .before .before .until-full .ensures .0, some c)
+
+bounded : (c : tie.Else1)
+    → let a = c .before .before .before .before .before .before .before .before .before .args in
+    Bounded (clockEnd + 1 + written c) (a .t .tick + written c * a .s .budget .ticks) (turnedOn (before c) (a .t .tick) (a .i) (a .s) (written c))
+bounded c = let a = c .before .before .before .before .before .before .before .before .before .args in on-bounded (a .i) (a .s) (written c) (c .before .before .before .before .before .before .before .before .before .pre .1)
 
 mul-interrupted : tie.Need-mul-interrupted
 mul-interrupted c = search needs
@@ -71,92 +65,74 @@ element-copy-out-interrupted c = search needs
 
 add-interrupted : tie.Need-add-interrupted
 add-interrupted c =
-    let a = c .before .before .before .before .before .before .before .before .before .before .args in
+    let o = c .before in
+    let i = o .before .before .before .before .before .before .before .before .before .args .i in
     omega (
       arith,
-      few (c .before),
-      some (c .before),
-      ap (λ (l : List ℕ). getD l (a .i) 0) (c .before .before .before .before .pass-each .ensures .1 .1),
-      on-above (a .c) (a .t) (a .i) (a .s) (c .before .before .before .before .before .before .before .lesser .result) clockEnd (a .interrupted .now) (c .before .before .before .before .before .before .before .before .before .before .pre .1 .1 .1 .1 .1 .1 .1) (a .i),
+      budgets-few (may o),
+      some o,
+      ap (λ (x : SegmentBook). getD (x .interrupted) i 0) (o .before .before .before .pass-each .ensures),
+      bounded o .cut i,
     )
 
 element-write-interrupted : tie.Need-element-write-interrupted
 element-write-interrupted c = search needs
 
 sub-last-of : tie.Need-sub-last-of
-sub-last-of c = search needs
+sub-last-of c = omega (arith, some (c .before))
 
 add-last-of : tie.Need-add-last-of
 add-last-of c =
-    let a = c .before .before .before .before .before .before .before .before .before .before .before .args in
+    let o = c .before .before in
     omega (
       arith,
-      few (c .before .before),
-      some (c .before .before),
-      ap (λ (x : Current). x .count) (c .before .before .before .before .before .pass-each .ensures .0),
-      on-count (a .c) (a .t) (a .i) (a .s) (c .before .before .before .before .before .before .before .before .lesser .result),
-      c .before .before .before .before .before .before .before .before .before .before .before .pre .1 .1 .1 .1 .1 .1 .0,
+      budgets-few (may o),
+      some o,
+      ap (λ (x : SegmentBook). x .current .count) (o .before .before .before .pass-each .ensures),
+      bounded o .counted,
     )
 
 last-of-requires : tie.Need-last-of-requires
 last-of-requires c κs =
-    let a = c .before .before .before .before .before .before .before .before .before .before .before .args in
-    let pre = c .before .before .before .before .before .before .before .before .before .before .before .pre .1 .1 in
-    let whole : suc (a .n - 1) ≡ a .n = omega (arith, some (c .before .before)) in
-    let all = ap (λ (k : ℕ). k * a .s .budget .ticks) whole in (
-      pre .0,
-      (
-        omega (arith, all, pre .1 .0),
-        (omega (arith, few (c .before .before), some (c .before .before)), omega (arith, all, pre .1 .1 .0)),
-      ),
-    )
+    let o = c .before .before in
+    let a = o .before .before .before .before .before .before .before .before .before .args in
+    let whole : a .n ≡ suc (a .n - 1) = omega (arith, some o) in
+    subst (BudgetsFrom (a .t .tick) (a .i) (a .s)) whole (may o)
 
 same-length-2 : tie.Need-same-length-2
 same-length-2 c = search needs
 
 returns-2 : tie.Need-returns-2
 returns-2 c =
-    let start = c .before .before .before .before .before .before .before .before .before .before .before .before in
-    let a = start .args in
-    let at = c .before .before .before in
-    let m = c .before .before .before .before .before .before .before .before .before .lesser .result in
-    let able = start .pre .1 .1 .0 in
-    let each = c .before .before .before .before .before .before .pass-each .ensures in
-    let period : 1 ≤ a .s .period .ticks = omega (arith, able .budget, able .fits) in
-    let whole : suc (a .n - 1) ≡ a .n = omega (arith, some at) in
-    let full : length (traceOn (a .c) (a .t) (a .i) (a .s) m (a .list .now)) / 4 ≤ currentOn (a .c) (a .t) (a .i) (a .s) m .count
+    let o = c .before .before .before in
+    let a = o .before .before .before .before .before .before .before .before .before .args in
+    let passed = o .before .before .before .pass-each .ensures in
+    let was = turnedOn (before o) (a .t .tick) (a .i) (a .s) (written o) in
+    let whole : suc (a .n - 1) ≡ a .n = omega (arith, some o) in
+    let cuts = ap (λ (x : SegmentBook). x .interrupted) passed in
+    let counts = ap (λ (x : SegmentBook). x .current .count) passed in
+    let skip : a .n - written o ≡ suc (a .n - 1) - written o = omega (arith, some o) in
+    let period : 1 ≤ a .s .period .ticks = omega (arith, may o .able .budget, may o .able .fits) in
+    let full : length (was .list) / 4 ≤ was .current .count
     = omega (
       arith,
-      counted-least (a .c) (a .t) (a .i) (a .s) (start .pre .0) period m (shown at),
-      c .before .before .before .before .before .before .before .before .before .before .until-full .ensures .1,
-      c .before .before .before .before .before .before .before .before .before .lesser .ensures,
-      some at,
-      ap (λ (l : List ℕ). length l / 4) (each .1 .0),
-      ap (λ (n : ℕ). n / 4) (c .before .before .before .before .before .list .given),
-    ) in (
-      c .last-of .ensures
-          ∙ ap (lastOf (a .t) (a .i) (a .s) (a .n - 1))
-          (ap₂ _+_ (ap (λ (x : Current). x .count) (each .0)) (omega (arith, some at)))
-          ∙ sym (skipped-current (a .c) (a .t) (a .i) (a .s) (start .pre .0) period m (shown at) (a .n - 1) (omega (arith, some at)))
-          ∙ ap (currentOn (a .c) (a .t) (a .i) (a .s)) whole,
-      (
-        each .1 .0
-            ∙ sym (skipped-list (a .c) (a .t) (a .i) (a .s) (start .pre .0) period m (shown at) (a .list .now) full (a .n) (omega (arith, some at))),
-        ap (λ (l : List ℕ). set l (a .i) (getD l (a .i) 0 + (a .n - m))) (each .1 .1)
-            ∙ sym
-            (skipped-cut (a .c) (a .t) (a .i) (a .s) (start .pre .0) period m (shown at) (a .interrupted .now)
-            (omega (
-              arith,
-              cut-length (a .c) (a .t) (a .i) (a .s) (start .pre .0) period (a .interrupted .now) m,
-              start .pre .0,
-              start .pre .1 .0,
-            ))
-            (a .n)
-            (omega (arith, some at))
-            (able .budget)
-            (start .pre .1 .1 .1 .1 .0)),
-      ),
-    )
+      counted-least (before o) (a .t .tick) (a .i) (a .s) (may o .place) period (written o) (one o),
+      o .before .before .before .before .before .before .lesser .ensures,
+      o .before .before .before .before .before .before .before .until-full .ensures .1,
+      some o,
+      ap (λ (x : SegmentBook). length (x .list) / 4) passed,
+      ap (λ (n : ℕ). n / 4) (o .before .before .list .given),
+    ) in
+    segments-same (ap (λ (x : SegmentBook). x .list) passed)
+    (ap₂ (λ (l : List ℕ) (k : ℕ). set l (a .i) (getD l (a .i) 0 + k)) cuts skip)
+    (c .last-of .ensures ∙ ap₂ (λ (m k : ℕ). lastOf (a .t .tick) (a .i) (a .s) (a .n - 1) (m + k)) counts skip)
+    ∙ sym
+    (skipped (before o) (a .t .tick) (a .i) (a .s) (may o .place) period (written o) (one o) full (omega (arith, may o .place, bounded o .places))
+    (may o .able .budget)
+    (a .n - 1)
+    (omega (arith, some o))
+    (omega (arith, ap (λ (k : ℕ). k * a .s .budget .ticks) whole, may o .works)))
+    ∙ ap (turnedOn (before o) (a .t .tick) (a .i) (a .s)) whole
 
 pub pass-spec : {M : Type 1} → statement M
 pass-spec =

@@ -2,17 +2,17 @@
 use Prim.Native.Nat.{ℕ, suc, _+_, _-_, _*_, _≤_, _<_}
 use borrow.Author.Needs.{needs}
 use lib.ListN.{length, getD}
-use mathlib.Core.List.{List}
 use mathlib.Core.Path.{_≡_, refl, _∙_, ap, ap₂}
-use native.Mathlib.Nat.{le-mul-of-pos-right, mul-le-mul-right, le-antisymm}
+use native.Mathlib.Nat.{mul-le-mul-right, le-antisymm}
 use native.Mathlib.Numerals.{add-one}
 use native.Mathlib.Omega.{arith}
-use Rattle.books.specs.declared.Current.{Current}
-use Rattle.books.proofs.budgets.BudgetLaws.{deadline-more, on-begun, on-count, on-above}
-use Rattle.books.proofs.budgets.Budgets.{budgetsOn, currentOn, traceOn, interruptedOn, Able, NoneAbove}
-use Rattle.books.proofs.stretches.Segmented.{withWaits}
-use Rattle.books.proofs.stretches.Turns.{currentThen, traceThen, interruptedThen}
-use Rattle.clock.specs.Clock.{lastTick, moment, later, upToLast}
+use Rattle.books.proofs.Book.{SegmentBook, segmentBook, withWaits}
+use Rattle.books.proofs.budgets.BudgetLaws.{budgets-few, deadline-more, waiting-more, on-bounded}
+use Rattle.books.proofs.budgets.Budgets.{budgetsOn, turnedOn, BudgetsFrom}
+use Rattle.books.proofs.stretches.Turns.{turned, Bounded, MayEnd}
+use Rattle.clock.proofs.ClockLaws.{up-to-last-whole}
+use Rattle.clock.specs.Clock.{lastTick, moment, ticks, later, upToLast}
+use Rattle.clock.specs.declared.Length.{Length}
 use Rattle.clock.specs.declared.Moment.{Moment}
 use Rattle.server.specs.declared.Server.{Server}
 use Rattle.sizes.specs.Sizes.{clockEnd}
@@ -20,133 +20,114 @@ use Rattle.run.proofs.budgets.pass_each.Statement.{statement}
 use Rattle.run.proofs.budgets.pass_each.Tie as tie
 
 -- all after k of n budgets
-record Passed (list₀ interrupted₀ : List ℕ) (c : Current) (t i : ℕ) (s : Server) (n : ℕ) (list interrupted : List ℕ) (current : Current)
-    (at : ℕ) (deadline : Moment) (waiting k : ℕ) : Type 0 where
-  current-is : current ≡ currentOn c t i s k
-  list-is : list ≡ traceOn c t i s k list₀
-  interrupted-is : interrupted ≡ interruptedOn c t i s k interrupted₀
-  at-is : at ≡ t + k * s .budget .ticks
+record Passed (b : SegmentBook) (t i : ℕ) (s : Server) (n : ℕ) (x : SegmentBook) (at deadline : Moment) (waiting : Length) (k : ℕ) : Type 0 where
+  segments-is : x ≡ turnedOn b t i s k
+  at-is : at ≡ moment (t + k * s .budget .ticks)
   deadline-is : deadline ≡ budgetsOn s k .deadline
-  waiting-is : waiting ≡ s .waiting .ticks - k * s .budget .ticks
+  waiting-is : waiting ≡ budgetsOn s k .waiting
   within : k ≤ n
-  places : length list ≡ length list₀
+  places : length (x .list) ≡ length (b .list)
 
-module _ {list₀ interrupted₀ : List ℕ} {c : Current} {t i : ℕ} {s : Server} {n : ℕ} where
-  passed-none : Passed list₀ interrupted₀ c t i s n list₀ interrupted₀ c t (s .deadline) (s .waiting .ticks) 0
-  unfolding currentOn traceOn interruptedOn budgetsOn
+module _ {b : SegmentBook} {t i : ℕ} {s : Server} {n : ℕ} where
+  passed-none : Passed b t i s n b (moment t) (s .deadline) (s .waiting) 0
+  unfolding turnedOn budgetsOn
   passed-none =
       record {
-        current-is = refl;
-        list-is = refl;
-        interrupted-is = refl;
-        at-is = omega arith;
+        segments-is = refl;
+        at-is = ap moment (omega arith);
         deadline-is = ap moment (omega arith);
-        waiting-is = omega arith;
+        waiting-is = ap ticks (omega arith);
         within = omega arith;
         places = refl;
       }
 
-  module _ {list interrupted : List ℕ} {current : Current} {at : ℕ} {deadline : Moment} {waiting k : ℕ} (able : Able s)
-      (time : t + n * s .budget .ticks ≤ clockEnd) (work : n * s .budget .ticks ≤ s .waiting .ticks)
-      (p : Passed list₀ interrupted₀ c t i s n list interrupted current at deadline waiting k) where
-    -- there are no more budgets than ticks in them
-    few : n ≤ clockEnd
-    few = omega (arith, le-mul-of-pos-right n (able .budget))
-
+  module _ {x : SegmentBook} {at deadline : Moment} {waiting : Length} {k : ℕ} (may : BudgetsFrom t i s n) (by : Bounded (clockEnd + 1) t b)
+      (p : Passed b t i s n x at deadline waiting k) (more : k < n) where
     -- one budget more is within the work and the time
-    module _ (more : k < n) where
-      next-within : suc k * s .budget .ticks ≤ n * s .budget .ticks
-      next-within = mul-le-mul-right (s .budget .ticks) (omega arith)
+    next-within : suc k * s .budget .ticks ≤ n * s .budget .ticks
+    next-within = mul-le-mul-right (s .budget .ticks) (omega arith)
 
-      enough : s .budget .ticks ≤ waiting
-      enough = omega (arith, next-within, p .waiting-is)
+    enough : s .budget .ticks ≤ waiting .ticks
+    unfolding budgetsOn
+    enough = omega (arith, next-within, ap (λ (l : Length). l .ticks) (p .waiting-is), may .works)
 
-      in-time : at + s .budget .ticks ≤ clockEnd
-      in-time = omega (arith, next-within, p .at-is)
+    bounded : Bounded (clockEnd + 1 + k) (t + k * s .budget .ticks) (turnedOn b t i s k)
+    bounded = on-bounded i s k by
 
-      begun : c .start .tick ≤ t → current .start .tick ≤ at
-      begun by = omega (arith, ap (λ (x : Current). x .start .tick) (p .current-is), p .at-is, on-begun c t i s k by)
+    may-end : MayEnd (at .tick) (x .current)
+    may-end =
+        record {
+          from =
+              omega (
+                arith,
+                ap (λ (m : Moment). m .tick) (p .at-is),
+                ap (λ (y : SegmentBook). y .current .start .tick) (p .segments-is),
+                bounded .from,
+              );
+          counted = omega (arith, ap (λ (y : SegmentBook). y .current .count) (p .segments-is), bounded .counted, budgets-few may);
+        }
 
-      count-few : c .count ≤ clockEnd → current .count < lastTick
-      count-few by = omega (arith, few, ap (λ (x : Current). x .count) (p .current-is), on-count c t i s k)
+    cut-few : (j : ℕ) → getD (x .interrupted) j 0 < lastTick
+    cut-few j = omega (arith, ap (λ (y : SegmentBook). getD (y .interrupted) j 0) (p .segments-is), bounded .cut j, budgets-few may)
 
-      cut-few : NoneAbove clockEnd interrupted₀ → (j : ℕ) → getD interrupted j 0 < lastTick
-      cut-few by j = omega (arith, few, ap (λ (l : List ℕ). getD l j 0) (p .interrupted-is), on-above c t i s k clockEnd interrupted₀ by j)
-
-      passed-more : {turned : Current} {list' interrupted' : List ℕ} {deadline' : Moment} → turned ≡ currentThen current at i deadline
-          → list' ≡ traceThen current at i deadline list → interrupted' ≡ interruptedThen current i deadline interrupted
-          → deadline' ≡ upToLast (later deadline (s .period)) → length list' ≡ length list
-          → Passed list₀ interrupted₀ c t i s n list' interrupted' (withWaits turned (waiting - s .budget .ticks)) (at + s .budget .ticks) deadline'
-          (waiting - s .budget .ticks)
-          (suc k)
-      unfolding currentOn traceOn interruptedOn budgetsOn
-      passed-more {turned} {list'} {interrupted'} {deadline'} turns writes cuts shows kept =
-          record {
-            current-is =
-                ap₂ withWaits
-                (turns
-                ∙ ap (λ (x : Current). currentThen x at i deadline) (p .current-is)
-                ∙ ap₂ (λ (u : ℕ) (d : Moment). currentThen (currentOn c t i s k) u i d) (p .at-is) (p .deadline-is))
-                left;
-            list-is =
-                writes
-                ∙ ap₂ (λ (x : Current) (l : List ℕ). traceThen x at i deadline l) (p .current-is) (p .list-is)
-                ∙ ap₂ (λ (u : ℕ) (d : Moment). traceThen (currentOn c t i s k) u i d (traceOn c t i s k list₀)) (p .at-is) (p .deadline-is);
-            interrupted-is =
-                cuts
-                ∙ ap₂ (λ (x : Current) (l : List ℕ). interruptedThen x i deadline l) (p .current-is) (p .interrupted-is)
-                ∙ ap (λ (d : Moment). interruptedThen (currentOn c t i s k) i d (interruptedOn c t i s k interrupted₀)) (p .deadline-is);
-            at-is = omega (arith, p .at-is);
-            deadline-is =
-                shows ∙ ap (λ (d : Moment). upToLast (later d (s .period))) (p .deadline-is) ∙ deadline-more s k able (omega (arith, few));
-            waiting-is = left;
-            within = omega arith;
-            places = kept ∙ p .places;
-          }
-        where
-          left : waiting - s .budget .ticks ≡ s .waiting .ticks - suc k * s .budget .ticks
-          left = omega (arith, p .waiting-is)
+    passed-more : {y : SegmentBook} {at′ deadline′ : Moment} {waiting′ : Length} → y ≡ turned x (at .tick) i deadline
+        → waiting′ ≡ ticks (waiting .ticks - s .budget .ticks) → at′ ≡ upToLast (later at (s .budget))
+        → deadline′ ≡ upToLast (later deadline (s .period)) → length (y .list) ≡ length (x .list)
+        → Passed b t i s n (withWaits y waiting′) at′ deadline′ waiting′ (suc k)
+    unfolding turnedOn
+    passed-more {y} {at′} {deadline′} {waiting′} turns lessens goes shows same =
+        record {
+          segments-is =
+              ap₂ withWaits
+              (turns
+              ∙ ap₂ (λ (z : SegmentBook) (u : Moment). turned z (u .tick) i deadline) (p .segments-is) (p .at-is)
+              ∙ ap (turned (turnedOn b t i s k) (t + k * s .budget .ticks) i) (p .deadline-is))
+              left;
+          at-is =
+              goes
+              ∙ ap (λ (u : Moment). upToLast (later u (s .budget))) (p .at-is)
+              ∙ up-to-last-whole (moment (t + k * s .budget .ticks + s .budget .ticks)) (omega (arith, next-within, may .time))
+              ∙ ap moment (omega arith);
+          deadline-is =
+              shows
+              ∙ ap (λ (d : Moment). upToLast (later d (s .period))) (p .deadline-is)
+              ∙ deadline-more s k (may .able) (omega (arith, budgets-few may));
+          waiting-is = left;
+          within = omega arith;
+          places = same ∙ p .places;
+        }
+      where
+        left : waiting′ ≡ budgetsOn s (suc k) .waiting
+        left = lessens ∙ ap (λ (l : Length). ticks (l .ticks - s .budget .ticks)) (p .waiting-is) ∙ waits-more
+          where
+            waits-more : ticks (budgetsOn s k .waiting .ticks - s .budget .ticks) ≡ budgetsOn s (suc k) .waiting
+            waits-more = waiting-more s k
 
 abbrev Inv-loop : tie.InvT-loop
-Inv-loop list₀ interrupted₀ t i s n budget current₀ at₀ deadline₀ waiting₀ k₀ list interrupted current at deadline waiting k =
-    Passed list₀ interrupted₀ current₀ t i s n list interrupted current at deadline waiting k
+Inv-loop list₀ interrupted₀ i s n current₀ at₀ deadline₀ waiting₀ k₀ list interrupted current at deadline waiting k =
+    Passed (segmentBook list₀ interrupted₀ current₀) (at₀ .tick) i s n (segmentBook list interrupted current) at deadline waiting k
 
 abbrev μ-loop : tie.MeasureT-loop
-μ-loop list₀ interrupted₀ t i s n budget current₀ at₀ deadline₀ waiting₀ k₀ list interrupted current at deadline waiting k = n - k
+μ-loop list₀ interrupted₀ i s n current₀ at₀ deadline₀ waiting₀ k₀ list interrupted current at deadline waiting k = n - k
 
 loop-holds : tie.Need-loop-holds Inv-loop μ-loop
 loop-holds c = passed-none
 
 turn-to-requires : tie.Need-turn-to-requires Inv-loop μ-loop
 turn-to-requires c κs =
-    let start = c .before .before .before .before .before .before in
-    let pre = start .pre in
-    let loop = c .before .before .before .loop in
-    let more = c .before .before .loop-test .taken in (
-      begun (pre .0) (pre .1 .0) (pre .1 .1 .0) (loop .inv) more (pre .1 .1 .1 .0),
-      (
-        count-few (pre .0) (pre .1 .0) (pre .1 .1 .0) (loop .inv) more (pre .1 .1 .1 .1 .0),
-        cut-few (pre .0) (pre .1 .0) (pre .1 .1 .0) (loop .inv) more (pre .1 .1 .1 .1 .1) (loop .current .server),
-      ),
-    )
+    let pre = c .before .before .before .before .before .before .before .pre in
+    let p = c .before .before .before .loop .inv in
+    let more = c .before .before .loop-test .taken in
+    (may-end (pre .0) (pre .1) p more, cut-few (pre .0) (pre .1) p more (c .before .before .before .loop .current .server))
 
-sub-waiting : tie.Need-sub-waiting Inv-loop μ-loop
-sub-waiting c =
-    let pre = c .before .before .before .before .before .before .before .before .before .pre in
-    enough (pre .0) (pre .1 .0) (pre .1 .1 .0) (c .before .before .before .before .before .before .loop .inv)
-    (c .before .before .before .before .before .loop-test .taken)
-
-add-at : tie.Need-add-at Inv-loop μ-loop
-add-at c =
-    let pre = c .before .before .before .before .before .before .before .before .before .pre in
-    search (
-      needs,
-      in-time (pre .0) (pre .1 .0) (pre .1 .1 .0) (c .before .before .before .before .before .before .loop .inv)
-          (c .before .before .before .before .before .loop-test .taken),
-    )
+less-requires : tie.Need-less-requires Inv-loop μ-loop
+less-requires c κs = let pre = c .before .before .before .before .before .before .before .before .before .before .pre in enough (pre .0) (pre .1) (c .before .before .before .before .before .before .loop .inv) (c .before .before .before .before .before .loop-test .taken)
 
 later-requires : tie.Need-later-requires Inv-loop μ-loop
 later-requires c κs = search needs
+
+later-requires-2 : tie.Need-later-requires-2 Inv-loop μ-loop
+later-requires-2 c κs = search needs
 
 add-k : tie.Need-add-k Inv-loop μ-loop
 add-k c = search needs
@@ -156,15 +137,10 @@ loop-less c = search needs
 
 loop-again : tie.Need-loop-again Inv-loop μ-loop
 loop-again c =
-    let pre = c .before .before .before .before .before .before .before .before .before .before .pre in
-    let turned = c .before .before .before .turn-to in
+    let pre = c .before .before .before .before .before .before .before .before .before .before .before .before .before .pre in
     rw add-one
-    (passed-more (pre .0) (pre .1 .0) (pre .1 .1 .0) (c .before .before .before .before .before .before .before .loop .inv)
-    (c .before .before .before .before .before .before .loop-test .taken)
-    (turned .ensures .0)
-    (turned .ensures .1 .0)
-    (turned .ensures .1 .1)
-    (c .later .ensures)
+    (passed-more (pre .0) (pre .1) (c .before .before .before .before .before .before .before .before .before .loop .inv) (c .before .before .before .before .before .before .before .before .loop-test .taken) (c .before .before .before .before .before .turn-to .ensures) (c .before .before .less .ensures) (c .before .later .ensures)
+    (c .later2 .ensures)
     (search needs))
 
 same-length : tie.Need-same-length Inv-loop μ-loop
@@ -172,16 +148,10 @@ same-length c = c .before .loop .inv .places
 
 returns : tie.Need-returns Inv-loop μ-loop
 returns c =
-    let start = c .before .before .before .before in
-    let a = start .args in
+    let a = c .before .before .before .before .before .args in
     let p = c .before .loop .inv in
-    let all : c .before .loop .k ≡ a .n = le-antisymm (p .within) (c .loop-test .left) in (
-      p .current-is ∙ ap (currentOn (a .c) (a .t) (a .i) (a .s)) all,
-      (
-        p .list-is ∙ ap (λ (k : ℕ). traceOn (a .c) (a .t) (a .i) (a .s) k (a .list .now)) all,
-        p .interrupted-is ∙ ap (λ (k : ℕ). interruptedOn (a .c) (a .t) (a .i) (a .s) k (a .interrupted .now)) all,
-      ),
-    )
+    let all : c .before .loop .k ≡ a .n = le-antisymm (p .within) (c .loop-test .left) in
+    p .segments-is ∙ ap (turnedOn (segmentBook (a .list .now) (a .interrupted .now) (a .c)) (a .t .tick) (a .i) (a .s)) all
 
 pub pass-each-spec : {M : Type 1} → statement M
 pass-each-spec =
@@ -191,9 +161,9 @@ pass-each-spec =
     μ-loop
     loop-holds
     turn-to-requires
-    sub-waiting
-    add-at
+    less-requires
     later-requires
+    later-requires-2
     add-k
     loop-less
     loop-again

@@ -54,7 +54,7 @@ returns : tie.Need-returns
 returns c =
     record {
       left-is = refl;
-      goes-on = λ some. let no : ⊥ = omega (arith, c .before .before .if1 .taken) in absurd no;
+      goes-on = λ some. let no : ⊥ = omega (arith, c .before .before .before .if1 .taken) in absurd no;
       ends = λ none. (refl, refl);
     }
 

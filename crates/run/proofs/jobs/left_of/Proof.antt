@@ -29,8 +29,7 @@ element-copy-out-arrival-of : tie.Need-element-copy-out-arrival-of
 element-copy-out-arrival-of c = search needs
 
 arrival-of-requires : tie.Need-arrival-of-requires
-arrival-of-requires c κs =
-    let pre = c .before .before .before .before .pre in (pre .0, pre .1 .1 .1 (omega (arith, c .before .if1 .left)))
+arrival-of-requires c κs = let pre = c .before .before .before .before .pre in (pre .0, pre .1 .another (omega (arith, c .before .if1 .left)))
 
 mul-left : tie.Need-mul-left
 mul-left c = search needs
@@ -40,11 +39,11 @@ element-write-left c = search needs
 
 returns-2 : tie.Need-returns-2
 returns-2 c =
-    let start = c .before .before .before .before .before in
+    let start = c .before .before .before .before .before .before in
     record {
-      stays = λ some. let no : ⊥ = omega (arith, c .before .before .if1 .left) in absurd no;
-      opens = λ none. ap (λ (a : Arrival). set (start .args .left .now) (start .args .i) (a .cost .ticks)) (c .arrival-of .ensures);
-      rest-is = sym (getD-set-same (start .args .left .now) (start .args .i) _ 0 (omega (arith, start .pre .1 .0, start .pre .1 .1 .0)));
+      stays = λ some. let no : ⊥ = omega (arith, c .before .before .before .if1 .left) in absurd no;
+      opens = λ none. ap (λ (a : Arrival). set (start .args .left .now) (start .args .i) (a .cost .ticks)) (c .before .arrival-of .ensures);
+      rest-is = sym (getD-set-same (start .args .left .now) (start .args .i) _ 0 (omega (arith, start .pre .1 .place, start .pre .1 .places)));
     }
 
 pub left-of-spec : {M : Type 1} → statement M

@@ -27,8 +27,8 @@ loop-holds c =
     let start = c .before .before in
     let read = arrivals-read _ (c .header-of .ensures) in (
       subst₂ (λ (k : ℕ) (l : List ℕ). Lined (work (start .args .file .now)) k l (start .args .behind .now)) (sym read)
-          (sym (start .pre .1 .0))
-          (lined-none (start .pre .1 .1)),
+          (sym (start .pre .1 .first-is))
+          (lined-none (start .pre .1 .places)),
       omega (arith, read),
     )
 

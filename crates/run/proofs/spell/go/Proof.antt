@@ -1,76 +1,48 @@
 -- `run::spell::go` meets its promise: the spell is within the time that is left, and the tree is set as planned.
 use borrow.Author.Needs.{needs}
+use mathlib.Core.Path.{refl}
 use native.Mathlib.Omega.{arith}
-use Rattle.books.proofs.spell.PlannedLaws.{planned-few}
+use Rattle.books.proofs.spell.PlannedLaws.{planned-few, planned-budgets}
 use Rattle.run.proofs.spell.go.Statement.{statement}
 use Rattle.run.proofs.spell.go.Tie as tie
 
 plan-requires : tie.Need-plan-requires
-plan-requires c κs =
-    let pre = c .before .before .pre in
-    let planning = pre .1 .1 .1 .1 in (
-      pre .0,
-      (
-        pre .1 .0,
-        (
-          pre .1 .1 .0,
-          (
-            pre .1 .1 .1 .0,
-            (
-              planning .0,
-              (planning .1 .0, (planning .1 .1 .0, (planning .1 .1 .1 .0, (omega (arith, planning .1 .1 .1 .1 .0), planning .1 .1 .1 .1 .1 .1 .1 .1 .1 .1)))),
-            ),
-          ),
-        ),
-      ),
-    )
+plan-requires c κs = c .before .before .pre .plans
 
 pass-through-requires : tie.Need-pass-through-requires
-pass-through-requires c κs =
-    let timing = c .before .before .before .before .before .pre .1 .1 .1 .1 .1 .1 .1 in
-    let planned = c .before .before .plan .ensures in (
-      c .before .before .before .before .before .pre .0,
-      (
-        timing .1 .1 .1 .1 .1 .1 .0,
-        (
-          planned .able,
-          (
-            omega (arith, planned .gone-after, planned .gone-room, timing .1 .0),
-            (
-              planned .works,
-              (
-                timing .1 .1 .0,
-                (timing .1 .1 .1 .0, (timing .1 .1 .1 .1 .0, omega (arith, timing .0, timing .1 .0))),
-              ),
-            ),
-          ),
-        ),
-      ),
-    )
+pass-through-requires c κs = (planned-budgets (c .before .before .before .before .before .pre) (c .before .before .plan .ensures), c .before .before .before .before .before .pre .bounded)
 
 set-key-requires : tie.Need-set-key-requires
-set-key-requires c κs = search needs
+set-key-requires c κs = let leaf = c .before .before .before .before .before .before .before .before .before .pre .plans .leaf in (leaf .place, leaf .winners)
 
 mul-postponed : tie.Need-mul-postponed
-mul-postponed c = search needs
+mul-postponed c = omega (arith, c .before .before .before .before .before .before .before .before .before .before .pre .plans .leaf .place)
 
 element-copy-out-postponed : tie.Need-element-copy-out-postponed
-element-copy-out-postponed c = search needs
+element-copy-out-postponed c = c .before .before .before .before .before .before .before .before .before .before .pre .plans .leaf .place
 
 add-postponed : tie.Need-add-postponed
 add-postponed c =
     let pre = c .before .before .before .before .before .before .before .before .before .before .before .before .pre in
-    let timing = pre .1 .1 .1 .1 .1 .1 .1 in
-    omega (arith, planned-few (c .before .before .before .before .before .before .before .before .before .plan .ensures) (pre .1 .1 .0 .budget), timing .1 .0, timing .1 .1 .1 .1 .1 .0)
+    omega (arith, planned-few (c .before .before .before .before .before .before .before .before .before .plan .ensures) (pre .plans .able .budget), pre .in-time, pre .few)
 
 element-write-postponed : tie.Need-element-write-postponed
-element-write-postponed c = search needs
+element-write-postponed c = c .before .before .before .before .before .before .before .before .before .before .before .before .pre .plans .leaf .place
 
 same-length : tie.Need-same-length
 same-length c = search needs
 
 returns : tie.Need-returns
-returns c = search needs
+returns c =
+    record {
+      spell = c .before .before .before .before .before .before .before .before .before .before .before .plan .result;
+      planned = c .before .before .before .before .before .before .before .before .before .before .before .plan .ensures;
+      server-is = refl;
+      gone-is = refl;
+      set-now = c .before .before .before .before .set-key .ensures;
+      postponed-is = refl;
+      segments-is = c .before .before .before .before .before .before .before .before .pass-through .ensures;
+    }
 
 pub go-spec : {M : Type 1} → statement M
 go-spec =

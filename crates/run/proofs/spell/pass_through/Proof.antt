@@ -1,55 +1,45 @@
--- `run::spell::pass_through` meets its promise: the turn at t leaves the stretch and the counts within what the budgets that follow ask for.
-use Prim.Native.Nat.{ℕ, _+_}
+-- `run::spell::pass_through` meets its promise: the turn at t leaves the segments within what the budgets that follow ask for.
+use Prim.Native.Nat.{_+_}
 use borrow.Author.Needs.{needs}
-use lib.ListN.{length, getD}
-use mathlib.Core.List.{List}
-use mathlib.Core.Path.{_∙_, ap, ap₂}
+use mathlib.Core.Path.{_≡_, _∙_, ap, ap₂, subst, subst⁻¹}
 use native.Mathlib.Omega.{arith}
-use Rattle.books.proofs.budgets.BudgetLaws.{then-start, then-count, then-above}
-use Rattle.books.proofs.budgets.Budgets.{currentOn, traceOn, interruptedOn}
-use Rattle.books.proofs.stretches.Segmented.{withWaits}
-use Rattle.books.proofs.budgets.Skipped.{then-length}
-use Rattle.books.specs.declared.Current.{Current}
+use Rattle.books.proofs.Book.{SegmentBook, withWaits}
+use Rattle.books.proofs.budgets.Budgets.{turnedOn, BudgetsFrom}
+use Rattle.books.proofs.stretches.Turns.{Bounded, bounded-end, turned-bounded}
+use Rattle.clock.proofs.ClockLaws.{up-to-last-whole}
+use Rattle.clock.specs.Clock.{moment}
+use Rattle.clock.specs.declared.Moment.{Moment}
+use Rattle.sizes.specs.Sizes.{clockEnd}
 use Rattle.run.proofs.spell.pass_through.Statement.{statement}
 use Rattle.run.proofs.spell.pass_through.Tie as tie
 
 turn-to-requires : tie.Need-turn-to-requires
 turn-to-requires c κs =
-    let start = c .before .before .before .before in
-    let pre = start .pre .1 .1 in
-    (pre .1 .1 .1 .0, (omega (arith, pre .1 .1 .1 .1 .0), omega (arith, pre .1 .1 .1 .1 .1 .0 (start .args .c .server), pre .1 .1 .1 .1 .1 .1)))
+    let start = c .before .before .before .before .before .before in
+    (bounded-end (start .pre .1) (omega arith), omega (arith, start .pre .1 .cut (start .args .c .server)))
 
-add-pass : tie.Need-add-pass
-add-pass c = search needs
+later-requires : tie.Need-later-requires
+later-requires c κs = search needs
+
+-- where the budgets begin
+then : (c : tie.After-later) → let a = c .before .before .before .before .before .before .before .before .before .before .before .before .args in c .later .result ≡ moment (a .t .tick + a .p .ticks .ticks)
+then c =
+    let start = c .before .before .before .before .before .before .before .before .before .before .before .before in
+    c .later .ensures ∙ up-to-last-whole (moment (start .args .t .tick + start .args .p .ticks .ticks)) (omega (arith, start .pre .0 .time))
 
 pass-requires : tie.Need-pass-requires
 pass-requires c κs =
-    let start = c .before .before .before .before .before .before .before .before .before in
+    let start = c .before .before .before .before .before .before .before .before .before .before .before .before in
     let a = start .args in
-    let pre = start .pre .1 .1 in
-    let turned = c .before .before .before .before .turn-to .ensures in
-    let begun = then-start (a .c) (a .t) (a .i) (a .deadline) (pre .1 .1 .1 .0) in
-    let cut = then-above (a .t) (a .c) (a .i) (a .deadline) (a .interrupted .now) (pre .1 .1 .1 .1 .1 .0) in (
-      start .pre .0,
-      (
-        ap length (turned .1 .1) ∙ then-length (a .c) (a .i) (a .deadline) (a .interrupted .now) ∙ start .pre .1 .0,
-        (
-          pre .0,
-          (
-            pre .1 .0,
-            (
-              pre .1 .1 .0,
-              (
-                omega (arith, ap (λ (x : Current). x .start .tick) (turned .0), begun),
-                (
-                  omega (arith, ap (λ (x : Current). x .count) (turned .0), then-count (a .c) (a .t) (a .i) (a .deadline), pre .1 .1 .1 .1 .0),
-                  λ j. omega (arith, ap (λ (l : List ℕ). getD l j 0) (turned .1 .1), cut j, pre .1 .1 .1 .1 .1 .1),
-                ),
-              ),
-            ),
-          ),
-        ),
-      ),
+    let turned = c .before .before .before .before .before .turn-to .ensures in
+    let by = subst⁻¹ (Bounded (clockEnd + 1) (a .t .tick)) turned (turned-bounded (a .i) (a .deadline) (start .pre .1)) in (
+      subst⁻¹ (λ (m : Moment). BudgetsFrom (m .tick) (a .i) (a .p .after) (a .p .budgets)) (then c) (start .pre .0),
+      record {
+        from = omega (arith, by .from, ap (λ (m : Moment). m .tick) (then c));
+        counted = by .counted;
+        cut = by .cut;
+        places = by .places;
+      },
     )
 
 same-length : tie.Need-same-length
@@ -57,21 +47,11 @@ same-length c = search needs
 
 returns : tie.Need-returns
 returns c =
-    let a = c .before .before .before .before .before .before .before .before .before .before .before .before .args in
-    let turned = c .before .before .before .before .before .before .before .turn-to .ensures in
-    let passed = c .before .before .pass .ensures in
-    let at = a .t + a .p .ticks in
-    let waits = a .p .after .waiting .ticks in (
-      passed .0 ∙ ap (λ (x : Current). currentOn (withWaits x waits) at (a .i) (a .p .after) (a .p .budgets)) (turned .0),
-      (
-        passed .1 .0
-            ∙ ap₂ (λ (x : Current) (l : List ℕ). traceOn (withWaits x waits) at (a .i) (a .p .after) (a .p .budgets) l) (turned .0) (turned .1 .0),
-        passed .1 .1
-            ∙ ap₂ (λ (x : Current) (l : List ℕ). interruptedOn (withWaits x waits) at (a .i) (a .p .after) (a .p .budgets) l) (turned .0)
-            (turned .1 .1),
-      ),
-    )
+    let a = c .before .before .before .before .before .before .before .before .before .before .before .before .before .before .before .args in
+    c .before .before .pass .ensures
+    ∙ ap₂ (λ (x : SegmentBook) (m : Moment). turnedOn (withWaits x (a .p .after .waiting)) (m .tick) (a .i) (a .p .after) (a .p .budgets))
+    (c .before .before .before .before .before .before .before .before .turn-to .ensures)
+    (then (c .before .before .before))
 
 pub pass-through-spec : {M : Type 1} → statement M
-pass-through-spec =
-    tie.close (tie.spec turn-to-requires add-pass pass-requires same-length returns)
+pass-through-spec = tie.close (tie.spec turn-to-requires later-requires pass-requires same-length returns)

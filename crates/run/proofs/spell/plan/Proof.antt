@@ -1,141 +1,105 @@
 -- `run::spell::plan` meets its promise: what is planned is within job and time, so the laws of a spell give the rest.
-use Prim.Native.Nat.{_+_, _*_, _≤_}
+use Prim.Native.Nat.{_+_, _-_, _*_, _≤_, min}
 use borrow.Author.Needs.{needs}
-use mathlib.Core.Path.{subst⁻¹}
-use Rattle.books.proofs.spell.PlannedLaws.{after-able, further-works, further-few, last-key, gone-few, planned, spent-once}
+use mathlib.Core.Path.{_≡_, _∙_, ap, ap₂, subst⁻¹}
+use native.Mathlib.Omega.{arith}
+use Rattle.books.proofs.spell.PlannedLaws.{after-able, further-few, further-budgets, last-key, gone-few, planned, spent-once}
 use Rattle.clock.specs.Clock.{lastTick}
+use Rattle.clock.specs.declared.Length.{Length}
 use Rattle.server.specs.declared.Server.{Server}
 use Rattle.run.proofs.spell.plan.Statement.{statement}
 use Rattle.run.proofs.spell.plan.Tie as tie
 
-least-requires : tie.Need-least-requires
-least-requires c κs = search needs
+shortest-requires : tie.Need-shortest-requires
+shortest-requires c κs = search needs
+
+-- The ticks, as the shortest of budget, job and time, are within each of them.
+ticks-are : (c : tie.After-shortest)
+    → let a = c .before .args in c .shortest .result .ticks ≡ min (min (a .s .remaining .ticks) (a .rest .ticks)) (a .room .ticks)
+ticks-are c = ap (λ (l : Length). l .ticks) (c .shortest .ensures)
 
 serve-requires : tie.Need-serve-requires
-serve-requires c κs = search needs
+serve-requires c κs =
+    let pre = c .before .pre in
+    record {
+      budget = omega (arith, ticks-are c);
+      work = omega (arith, ticks-are c, pre .work);
+      deadline = omega (arith, pre .able .deadline, pre .able .period);
+    }
 
-sub-lesser : tie.Need-sub-lesser
-sub-lesser c = search needs
+less-requires : tie.Need-less-requires
+less-requires c κs = omega (arith, ticks-are (c .before))
 
-sub-lesser-2 : tie.Need-sub-lesser-2
-sub-lesser-2 c = search needs
+less-requires-2 : tie.Need-less-requires-2
+less-requires-2 c κs = omega (arith, ticks-are (c .before .before))
 
-lesser-requires : tie.Need-lesser-requires
-lesser-requires c κs = search needs
+shorter-requires : tie.Need-shorter-requires
+shorter-requires c κs = search needs
+
+-- what there is to spare is the shorter of what is left of job and of time
+spare-is : (c : tie.After-shorter)
+    → let a = c .before .before .before .before .before .args in
+    c .shorter .result .ticks
+    ≡ min (a .rest .ticks - c .before .before .before .before .shortest .result .ticks) (a .room .ticks - c .before .before .before .before .shortest .result .ticks)
+spare-is c =
+    ap (λ (l : Length). l .ticks) (c .shorter .ensures)
+    ∙ ap₂ (λ (l m : Length). min (l .ticks) (m .ticks)) (c .before .before .less .ensures) (c .before .less2 .ensures)
 
 further-requires : tie.Need-further-requires
-further-requires c κs =
-    let pre = c .before .before .before .pre in (
-      pre .0,
-      (
-        pre .1 .0,
-        (
-          after-able (pre .1 .1 .0) (pre .1 .1 .1 .0) (pre .1 .1 .1 .1 .1 .0) (pre .1 .1 .1 .1 .1 .1 .1 .1 .0) (c .before .before .least .ensures)
-              (c .before .serve .ensures)
-              (c .lesser .ensures),
-          pre .1 .1 .1 .1 .1 .1 .1 .1 .1,
-        ),
-      ),
-    )
+further-requires c κs = (c .before .before .before .before .before .pre .leaf, after-able (c .before .before .before .before .before .pre) (ticks-are (c .before .before .before .before)) (c .before .before .before .serve .ensures) (spare-is c))
 
 budgets-on-requires : tie.Need-budgets-on-requires
 budgets-on-requires c κs =
-    let pre = c .before .before .before .before .pre in
-    let ticks = c .before .before .before .least .ensures in
-    let served = c .before .before .serve .ensures in
-    let spare = c .before .lesser .ensures in (
-      after-able (pre .1 .1 .0) (pre .1 .1 .1 .0) (pre .1 .1 .1 .1 .1 .0) (pre .1 .1 .1 .1 .1 .1 .1 .1 .0) ticks served spare,
-      (
-        further-few (pre .1 .1 .0) (pre .1 .1 .1 .0) (pre .1 .1 .1 .1 .1 .0) (pre .1 .1 .1 .1 .1 .1 .1 .1 .0) ticks served spare
-            (c .further .ensures),
-        further-works (pre .1 .1 .0) (pre .1 .1 .1 .0) (pre .1 .1 .1 .1 .1 .0) (pre .1 .1 .1 .1 .1 .1 .1 .1 .0) ticks served spare
-            (c .further .ensures),
-      ),
-    )
+    let r = c .before in further-budgets (r .before .before .before .before .before .pre) (ticks-are (r .before .before .before .before)) (r .before .before .before .serve .ensures) (spare-is r) (c .further .ensures)
 
 key-of-requires : tie.Need-key-of-requires
 key-of-requires c κs =
-    let start = c .before .before .before .before .before in
-    let pre = start .pre in
-    subst⁻¹ (λ (x : Server). x .deadline .tick * 64 + start .args .i ≤ lastTick) (c .budgets-on .ensures)
-    (last-key (pre .1 .1 .0) (pre .1 .1 .1 .0) (pre .1 .1 .1 .1 .1 .0) (pre .1 .1 .1 .1 .1 .1 .1 .1 .0)
-    (c .before .before .before .before .least .ensures)
-    (c .before .before .before .serve .ensures)
-    (c .before .before .lesser .ensures)
-    (c .before .further .ensures)
-    (pre .0))
+    let r = c .before .before in
+    subst⁻¹ (λ (x : Server). x .deadline .tick * 64 + r .before .before .before .before .before .args .i ≤ lastTick) (c .budgets-on .ensures)
+    (last-key (r .before .before .before .before .before .pre) (ticks-are (r .before .before .before .before)) (r .before .before .before .serve .ensures) (spare-is r) (c .before .further .ensures))
 
 spent-requires : tie.Need-spent-requires
 spent-requires c κs = search needs
 
-mul-t16 : tie.Need-mul-t16
-mul-t16 c =
-    let pre = c .before .before .before .before .before .before .before .pre in
-    search (
-      needs,
-      gone-few (pre .1 .1 .0) (pre .1 .1 .1 .0) (pre .1 .1 .1 .1 .1 .0) (pre .1 .1 .1 .1 .1 .1 .1 .1 .0)
-          (c .before .before .before .before .before .before .least .ensures)
-          (c .before .before .before .before .before .serve .ensures)
-          (c .before .before .before .before .lesser .ensures)
-          (c .before .before .before .further .ensures),
-    )
-
-add-t17 : tie.Need-add-t17
-add-t17 c =
-    let pre = c .before .before .before .before .before .before .before .pre in
-    search (
-      needs,
-      gone-few (pre .1 .1 .0) (pre .1 .1 .1 .0) (pre .1 .1 .1 .1 .1 .0) (pre .1 .1 .1 .1 .1 .1 .1 .1 .0)
-          (c .before .before .before .before .before .before .least .ensures)
-          (c .before .before .before .before .before .serve .ensures)
-          (c .before .before .before .before .lesser .ensures)
-          (c .before .before .before .further .ensures),
-    )
+mul-t17 : tie.Need-mul-t17
+mul-t17 c =
+    let r = c .before .before .before .before .before in
+    omega (arith, gone-few (r .before .before .before .before .before .pre) (ticks-are (r .before .before .before .before)) (r .before .before .before .serve .ensures) (spare-is r) (c .before .before .before .before .further .ensures))
 
 add-t18 : tie.Need-add-t18
 add-t18 c =
-    let start = c .before .before .before .before .before .before .before in
-    let pre = start .pre in
-    let once = spent-once (c .before .before .before .before .before .before .least .result) (start .args .s .remaining .ticks) (c .spent .ensures) in
-    search (
-      needs,
-      once,
-      further-few (pre .1 .1 .0) (pre .1 .1 .1 .0) (pre .1 .1 .1 .1 .1 .0) (pre .1 .1 .1 .1 .1 .1 .1 .1 .0)
-          (c .before .before .before .before .before .before .least .ensures)
-          (c .before .before .before .before .before .serve .ensures)
-          (c .before .before .before .before .lesser .ensures)
-          (c .before .before .before .further .ensures),
+    let r = c .before .before .before .before .before .before in
+    omega (arith, gone-few (r .before .before .before .before .before .pre) (ticks-are (r .before .before .before .before)) (r .before .before .before .serve .ensures) (spare-is r) (c .before .before .before .before .before .further .ensures))
+
+add-t17 : tie.Need-add-t17
+add-t17 c =
+    let r = c .before .before .before .before .before .before in
+    omega (
+      arith,
+      spent-once (r .before .before .before .before .shortest .result .ticks) (r .before .before .before .before .before .args .s .remaining .ticks) (c .before .before .spent .ensures),
+      further-few (r .before .before .before .before .before .pre) (ticks-are (r .before .before .before .before)) (r .before .before .before .serve .ensures) (spare-is r) (c .before .before .before .before .before .further .ensures),
     )
 
 returns : tie.Need-returns
 returns c =
-    let pre = c .before .before .before .before .before .before .before .pre in
-    planned (pre .1 .1 .0) (pre .1 .1 .1 .0) (pre .1 .1 .1 .1 .1 .0) (pre .1 .1 .1 .1 .1 .1 .1 .1 .0)
-    (c .before .before .before .before .before .before .least .ensures)
-    (c .before .before .before .before .before .serve .ensures)
-    (c .before .before .before .before .lesser .ensures)
-    (c .before .before .before .further .ensures)
-    (pre .1 .1 .1 .1 .0)
-    (pre .1 .1 .1 .1 .1 .1 .0)
-    (pre .1 .1 .1 .1 .1 .1 .1 .0)
-    (c .before .before .budgets-on .ensures)
-    (c .before .key-of .ensures)
-    (c .spent .ensures)
+    let r = c .before .before .before .before .before .before in
+    planned (r .before .before .before .before .before .pre) (ticks-are (r .before .before .before .before)) (r .before .before .before .serve .ensures) (spare-is r) (c .before .before .before .before .before .further .ensures) (c .before .before .before .before .budgets-on .ensures) (c .before .before .before .key-of .ensures)
+    (c .before .before .spent .ensures)
 
 pub plan-spec : {M : Type 1} → statement M
 plan-spec =
     tie.close
     (tie.spec
-    least-requires
+    shortest-requires
     serve-requires
-    sub-lesser
-    sub-lesser-2
-    lesser-requires
+    less-requires
+    less-requires-2
+    shorter-requires
     further-requires
     budgets-on-requires
     key-of-requires
     spent-requires
-    mul-t16
-    add-t17
+    mul-t17
     add-t18
+    add-t17
     returns)

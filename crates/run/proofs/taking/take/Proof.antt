@@ -15,7 +15,7 @@ take-requires c κs = search needs
 taken : (c : tie.After-take) → let a = c .before .args in c .take .result ≡ arrived (a .s) (a .t) (a .cost)
 taken c =
     let pre = c .before .pre in
-    c .take .ensures ∙ arrival-ranged (pre .1 .1 .0) (pre .1 .1 .1 .0) (c .before .args .cost) (pre .1 .1 .1 .1)
+    c .take .ensures ∙ arrival-ranged (pre .ranged) (pre .time) (c .before .args .cost) (pre .room)
 
 key-of-requires : tie.Need-key-of-requires
 key-of-requires c κs =
@@ -24,8 +24,8 @@ key-of-requires c κs =
     rw (taken (c .before))
     (omega (
       arith,
-      deadline-below (arrived-ranged (a .s) (a .t) (a .cost) (pre .1 .1 .0) (pre .1 .1 .1 .1)) (pre .1 .1 .1 .0),
-      pre .0,
+      deadline-below (arrived-ranged (a .s) (a .t) (a .cost) (pre .ranged) (pre .room)) (pre .time),
+      pre .place,
     ))
 
 set-key-requires : tie.Need-set-key-requires

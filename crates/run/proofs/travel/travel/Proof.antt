@@ -2,14 +2,26 @@
 use Prim.Native.Nat.{ℕ, _≤_}
 use borrow.Author.Needs.{needs}
 use lib.ListN.{length, replicate, length-replicate}
-use mathlib.Core.List.{List}
-use mathlib.Core.Path.{_≡_, sym, _∙_, ap}
+use mathlib.Core.List.{List, []}
+use mathlib.Core.Path.{_≡_, sym, _∙_, ap, subst⁻¹}
 use native.Mathlib.Omega.{arith}
-use Rattle.books.proofs.Accepted.{arrivals-read, horizon-read}
+use Rattle.books.proofs.Accepted.{arrivals-read, horizon-read, fit-beside}
+use Rattle.books.proofs.Book.{Run, lentIn, standingAt, Book, book, turnBook, jobBook, segmentBook}
 use Rattle.books.proofs.jobs.FinishList.{finishes-again, finishes-length}
+use Rattle.books.proofs.jobs.Lined.{lined-follow}
+use Rattle.books.proofs.stretches.Turns.{bounded-end}
+use Rattle.books.proofs.travel.BetweenEvents.{bounded}
+use Rattle.books.proofs.travel.Travels.{Travels, travels-start}
+use Rattle.books.proofs.travel.WholeRun.{list-whole, count-whole, finishes-whole, postponed-whole, interrupted-all}
+use Rattle.books.specs.declared.Standing.{Standing}
+use Rattle.clock.specs.Clock.{lastTick}
+use Rattle.clock.specs.declared.Moment.{Moment}
 use Rattle.finish.specs.Finish.{isOpen, finishList}
+use Rattle.judgement.proofs.FitLaws.{Fit}
 use Rattle.sizes.specs.Sizes.{mostArrivals, mostServers}
 use Rattle.summary.specs.Summary.{finishes}
+use Rattle.trace.proofs.WrittenLaws.{written-length}
+use Rattle.trace.specs.Trace.{begun}
 use Rattle.workfile.specs.Work.{Work, work}
 use Rattle.run.proofs.travel.travel.Statement.{statement}
 use Rattle.run.proofs.travel.travel.Tie as tie
@@ -21,31 +33,37 @@ levels-of-requires : tie.Need-levels-of-requires
 levels-of-requires c κs = search needs
 
 open-all-requires : tie.Need-open-all-requires
-open-all-requires c κs = omega (arith, arrivals-read _ (c .before .before .header-of .ensures), c .before .before .before .before .before .before .pre .1)
+open-all-requires c κs = omega (arith, arrivals-read _ (c .before .before .before .header-of .ensures), c .before .before .before .before .before .before .before .pre .1)
 
 line-up-requires : tie.Need-line-up-requires
 line-up-requires c κs = (
-  c .before .before .before .before .before .before .before .before .before .before .before .pre .0,
-  (ap (replicate mostServers) (arrivals-read _ (c .before .before .before .before .before .before .before .header-of .ensures)), length-replicate {A = ℕ} mostArrivals 0),
+  c .before .before .before .before .before .before .before .before .before .before .before .before .pre .0,
+  record {
+    first-is = ap (replicate mostServers) (arrivals-read _ (c .before .before .before .before .before .before .before .before .header-of .ensures));
+    places = length-replicate {A = ℕ} mostArrivals 0;
+  },
 )
 
-start-requires : tie.Need-start-requires
-start-requires c κs = c .before .before .before .before .before .before .before .before .before .before .before .before .before .before .pre .0
+from-start-requires : tie.Need-from-start-requires
+from-start-requires c κs = c .before .before .before .before .before .before .before .before .before .before .before .before .before .before .before .pre .0
 
--- The work, and the finish list before and behind `open_all`.
+-- The work, the lists, and the finish list behind `open_all`.
 abbrev its : tie.After-behind2 → Work
-its p = work (p .before .before .before .before .before .before .before .before .before .before .before .before .before .before .before .before .before .args .file .now)
+its p = work (p .before .before .before .before .before .before .before .before .before .before .before .before .before .before .before .before .before .before .before .before .before .before .args .file .now)
 
 abbrev ends : tie.After-behind2 → List ℕ
-ends p = p .before .before .before .before .before .before .before .before .before .before .before .before .before .before .before .before .before .args .finishes .now
+ends p = p .before .before .before .before .before .before .before .before .before .before .before .before .before .before .before .before .before .before .before .before .before .before .args .finishes .now
 
 abbrev opened : tie.After-behind2 → List ℕ
-opened p = p .before .before .before .before .before .before .before .before .before .before .open-all .last .0
+opened p = p .before .before .before .before .before .before .before .before .before .before .before .before .before .before .open-all .last .0
+
+abbrev first : tie.After-behind2 → List ℕ
+first p = p .before .before .before .before .before .before .before .before .before .line-up .last .1 .0
 
 all-open : (p : tie.After-behind2) → opened p ≡ finishList (its p .arrivals) (λ k. isOpen) (ends p)
 all-open p =
-    p .before .before .before .before .before .before .before .before .before .before .open-all .ensures
-    ∙ ap (λ (m : ℕ). finishList m (λ k. isOpen) (ends p)) (arrivals-read _ (p .before .before .before .before .before .before .before .before .before .before .before .before .before .header-of .ensures))
+    p .before .before .before .before .before .before .before .before .before .before .before .before .before .before .open-all .ensures
+    ∙ ap (λ (m : ℕ). finishList m (λ k. isOpen) (ends p)) (arrivals-read _ (p .before .before .before .before .before .before .before .before .before .before .before .before .before .before .before .before .before .before .header-of .ensures))
 
 -- to open every job once more changes nothing
 open-again : (p : tie.After-behind2) → opened p ≡ finishList (its p .arrivals) (λ k. isOpen) (opened p)
@@ -55,36 +73,102 @@ open-again p =
     ∙ ap (finishList (its p .arrivals) (λ k. isOpen)) (sym (all-open p))
 
 long : (p : tie.After-behind2) → its p .arrivals ≤ length (opened p)
-long p = omega (arith, ap length (all-open p), finishes-length (its p .arrivals) (ends p) (λ k. isOpen), p .before .before .before .before .before .before .before .before .before .before .before .before .before .before .before .before .before .pre .1)
+long p = omega (arith, ap length (all-open p), finishes-length (its p .arrivals) (ends p) (λ k. isOpen), p .before .before .before .before .before .before .before .before .before .before .before .before .before .before .before .before .before .before .before .before .before .before .pre .1)
 
-to-horizon-requires : tie.Need-to-horizon-requires
-to-horizon-requires c κs =
-    (c .before .before .before .before .before .before .before .before .before .before .before .before .before .before .before .before .before .pre .0, (long c, (open-again c, (horizon-read _ (c .before .before .before .before .before .before .before .before .before .before .before .before .before .header-of .ensures), (c .before .before .start .ensures, (c .before .before .before .before .before .line-up .ensures, c .before .before .before .before .before .before .before .before .before .before .before .before .levels-of .ensures))))))
+fit : (p : tie.After-behind2) → Fit (its p) (length (opened p))
+fit p = fit-beside (length (opened p)) (p .before .before .before .before .before .before .before .before .before .before .before .before .before .before .before .before .before .before .before .before .before .before .pre .0 .fit) (long p)
+
+-- Where the run stands at its start, and its book then.
+abbrev from : tie.After-behind2 → Standing
+from p = p .before .before .before .before .before .before .from-start .result
+
+abbrev lent : tie.After-behind2 → Run
+lent p = lentIn (its p) (from p .moment .tick) (from p .current) (p .before .before .before .before .before .before .before .before .before .before .before .before .before .before .before .before .before .before .before .before .before .before .args .list .now) (opened p)
+
+abbrev began : tie.After-behind2 → Book
+began p =
+    book
+    (turnBook (replicate 128 lastTick) (replicate mostServers 0)
+    (segmentBook (p .before .before .before .before .before .before .before .before .before .before .before .before .before .before .before .before .before .before .before .before .before .before .args .list .now) (replicate mostServers 0) (from p .current)))
+    (jobBook (first p) (replicate mostServers 0) (opened p))
+
+starts : (p : tie.After-behind2) → Travels (lent p) (standingAt (from p)) (began p)
+starts p =
+    let list = p .before .before .before .before .before .before .before .before .before .before .before .before .before .before .before .before .before .before .before .before .before .before .args .list .now in
+    let lined = p .before .before .before .before .before .before .before .before .before .line-up .ensures in
+    subst⁻¹
+    (λ (s : Standing).
+    Travels (lentIn (its p) (s .moment .tick) (s .current) list (opened p)) (standingAt s)
+    (book (turnBook (replicate 128 lastTick) (replicate mostServers 0) (segmentBook list (replicate mostServers 0) (s .current)))
+    (jobBook (first p) (replicate mostServers 0) (opened p))))
+    (p .before .before .before .before .before .before .from-start .ensures)
+    (travels-start list (opened p) (fit p) (open-again p) (lined .first-places) (lined .firsts))
+
+at-horizon : (p : tie.After-behind2) → p .before .before .before .before .before .before .before .before .before .before .before .before .before .before .before .before .before .before .header-of .result .horizon .tick ≡ its p .horizon .tick
+at-horizon p = horizon-read _ (p .before .before .before .before .before .before .before .before .before .before .before .before .before .before .before .before .before .before .header-of .ensures)
+
+to-moment-requires : tie.Need-to-moment-requires
+to-moment-requires p κs =
+    record {
+      accepted = p .before .before .before .before .before .before .before .before .before .before .before .before .before .before .before .before .before .before .before .before .before .before .pre .0;
+      long = long p;
+      ahead = omega (arith, ap (λ (s : Standing). s .moment .tick) (p .before .before .before .before .before .before .from-start .ensures));
+      in-time = omega (arith, at-horizon p);
+      halves = p .before .before .before .before .before .before .before .before .before .before .before .before .before .before .before .before .levels-of .ensures;
+      follows = lined-follow (p .before .before .before .before .before .before .before .before .before .line-up .ensures);
+      travels = starts p;
+    }
+
+-- What the run leaves at the horizon.
+abbrev left : tie.After-to-moment → Book
+left m =
+    let l = m .to-moment .last .1 .1 .1 .1 .1 .1 in
+    book
+    (turnBook (l .0) (l .1 .0) (segmentBook (m .to-moment .last .1 .0) (l .1 .1 .0) (m .to-moment .result .current)))
+    (jobBook (l .1 .1 .1 .0) (l .1 .1 .1 .1 .0) (m .to-moment .last .1 .1 .0))
+
+came : (m : tie.After-to-moment) → Travels (lent (m .before)) (standingAt (m .to-moment .result)) (left m)
+came m = m .to-moment .ensures .1
+
+at-end : (m : tie.After-to-moment) → its (m .before) .horizon .tick ≤ m .to-moment .result .moment .tick
+at-end m = omega (arith, at-horizon (m .before), ap (λ (t : Moment). t .tick) (m .to-moment .ensures .0))
+
+-- no segment had ended when the list was lent
+none-seen : (m : tie.After-to-moment) → lent (m .before) .seen ≡ []
+unfolding begun
+none-seen m =
+    ap (λ (s : Standing). lentIn (its (m .before)) (s .moment .tick) (s .current) (m .before .before .before .before .before .before .before .before .before .before .before .before .before .before .before .before .before .before .before .before .before .before .before .args .list .now) (opened (m .before)) .seen)
+    (m .before .before .before .before .before .before .before .from-start .ensures)
+
+end-segment-requires : tie.Need-end-segment-requires
+end-segment-requires c κs = bounded-end (bounded (fit (c .before .before .before .before .before .before)) (came (c .before .before .before .before .before))) (omega arith)
 
 -- what the run wrote over the open jobs
-finished : (c : tie.After-slice-known5)
-    → c .before .before .before .before .to-horizon .last .1 .1 .0 ≡ finishList (its (c .before .before .before .before .before) .arrivals) (finishes (its (c .before .before .before .before .before))) (ends (c .before .before .before .before .before))
-finished c =
-    let p = c .before .before .before .before .before in
-    c .before .before .before .before .to-horizon .ensures .finishes-is
+finished : (m : tie.After-to-moment) → left m .jobs .finishes ≡ finishList (its (m .before) .arrivals) (finishes (its (m .before))) (ends (m .before))
+finished m =
+    let p = m .before in
+    finishes-whole (came m) (at-end m)
     ∙ ap (finishList (its p .arrivals) (finishes (its p))) (all-open p)
     ∙ finishes-again (its p .arrivals) (finishes (its p)) (λ k. isOpen) (ends p)
 
 same-length : tie.Need-same-length
-same-length c = search needs
+same-length c =
+    let m = c .before .before .before .before .before .before .before .before in
+    ap length (c .before .before .end-segment .ensures .1 ∙ list-whole (came m) (at-end m) (none-seen m)) ∙ written-length _ (m .before .before .before .before .before .before .before .before .before .before .before .before .before .before .before .before .before .before .before .before .before .before .before .args .list .now)
 
 same-length-2 : tie.Need-same-length-2
-same-length-2 c = ap length (finished c) ∙ finishes-length (its (c .before .before .before .before .before) .arrivals) (ends (c .before .before .before .before .before)) (finishes (its (c .before .before .before .before .before)))
+same-length-2 c =
+    let m = c .before .before .before .before .before .before .before .before in ap length (finished m) ∙ finishes-length (its (m .before) .arrivals) (ends (m .before)) (finishes (its (m .before)))
 
 returns : tie.Need-returns
 returns c =
-    let came = c .before .before .before .before .to-horizon .ensures in
+    let m = c .before .before .before .before .before .before .before .before in
     record {
-      list-is = came .list-is;
-      segments-is = came .segments-is;
-      finishes-is = finished c;
-      postponed-is = came .postponed-is;
-      interrupted-is = came .interrupted-is;
+      list-is = c .before .before .end-segment .ensures .1 ∙ list-whole (came m) (at-end m) (none-seen m);
+      segments-is = c .before .before .end-segment .ensures .0 ∙ count-whole (came m) (at-end m) (none-seen m);
+      finishes-is = finished m;
+      postponed-is = postponed-whole (came m) (at-end m);
+      interrupted-is = interrupted-all (came m) (at-end m);
     }
 
 pub travel-spec : {M : Type 1} → statement M
@@ -95,8 +179,9 @@ travel-spec =
     levels-of-requires
     open-all-requires
     line-up-requires
-    start-requires
-    to-horizon-requires
+    from-start-requires
+    to-moment-requires
+    end-segment-requires
     same-length
     same-length-2
     returns)
