@@ -3,8 +3,6 @@ pub mod BandwidthLaws
 pub mod CourseLaws
 pub mod Demand3Laws
 pub mod FilesLaws
-pub mod LiveLaws
 pub mod MovedLaws
 pub mod RunCourseLaws
 pub mod StandingLaws
-pub mod TracesLaws

@@ -1,5 +1,3 @@
 pub mod Demand3
 pub mod Files
 pub mod Got
-pub mod Live
-pub mod Traces

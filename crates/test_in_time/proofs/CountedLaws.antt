@@ -3,10 +3,10 @@ use Prim.Native.Nat.{ℕ, _+_, _≤_}
 use mathlib.Core.Bool.{Bool, true, false, cond}
 use mathlib.Core.Path.{_≡_, subst⁻¹}
 use native.Mathlib.Omega.{arith}
+use Rattle.callers.proofs.LiveLaws.{counting-none, counting-arrived, counting-ticked}
+use Rattle.callers.specs.Live.{LedCounting}
 use Rattle.clock.specs.declared.Length.{Length}
-use Rattle.demand_3.proofs.LiveLaws.{counting-none, counting-arrived, counting-ticked}
 use Rattle.demand_3.specs.Got.{isUnder}
-use Rattle.demand_3.specs.Live.{LedCounting}
 use Rattle.dispatcher.specs.Moves.{turnOf}
 use Rattle.dispatcher.specs.declared.Dispatcher.{Dispatcher}
 use Rattle.dispatcher.specs.declared.TickAnswer.{TickAnswer}

@@ -11,13 +11,13 @@ use native.Mathlib.Numerals.{add-one}
 use native.Mathlib.Omega.{arith}
 use Rattle.arrival.specs.declared.Arrival.{Arrival}
 use Rattle.booking.proofs.ShareLaws.{Sound, period-le-frame}
+use Rattle.callers.proofs.TracesLaws.{ran-list-demand-3, ran-no-work}
 use Rattle.clock.specs.Clock.{lastTick}
 use Rattle.counting.proofs.BelowLaws.{every-at}
 use Rattle.counting.proofs.PlacesLaws.{length-places}
 use Rattle.counting.proofs.SumLaws.{sum-first}
 use Rattle.counting.proofs.TestLaws.{and-left, and-right}
 use Rattle.counting.specs.Sum.{sum}
-use Rattle.demand_3.proofs.TracesLaws.{ran-list-demand-3, ran-no-work}
 use Rattle.finish.specs.Finish.{finishList}
 use Rattle.judgement.proofs.FitLaws.{judged-fit}
 use Rattle.refusal.specs.declared.Verdict.the-variants.{Accepted}
@@ -25,11 +25,11 @@ use Rattle.run.proofs.OutcomeLaws.{ran-judged, ran-accepting}
 use Rattle.run.specs.Outcome.{Outcome, outcome, runSays}
 use Rattle.run.specs.declared.Ran.{Ran}
 use Rattle.sizes.specs.Sizes.{clockEnd}
+use Rattle.workfile.specs.Work.{work}
 use Rattle.test_in_time.specs.declared.bandwidth.Window.{Window}
 use Rattle.test_in_time.specs.working.Bandwidth.{Allowed}
 use Rattle.test_in_time.specs.working.Lists.{AfterRun, inRun, isDone, allDone, gotBy}
 use Rattle.test_in_time.proofs.BandwidthLaws.{spent-fits}
-use Rattle.workfile.specs.Work.{work}
 
 -- one number more, and that the sum so far then is no more than that of all
 module _ (f : ℕ → ℕ) {k added more : ℕ} (so-far : added ≡ sum k f) (one : more ≡ f k) where

@@ -6,12 +6,12 @@ use mathlib.Core.Path.{_≡_, subst⁻¹}
 use native.Mathlib.Nat.{le-trans}
 use native.Mathlib.Omega.{arith}
 use Rattle.booking.specs.declared.Booking.{Booking}
+use Rattle.callers.proofs.LiveLaws.{opened-demand-3, opened-standing, live-demand-3, led-none, led-arrived, led-ticked}
+use Rattle.callers.specs.Live.{LiveDemand3}
 use Rattle.clock.specs.declared.Length.{Length}
 use Rattle.clock.specs.declared.Moment.{Moment}
-use Rattle.demand_3.proofs.LiveLaws.{opened-demand-3, opened-standing, live-demand-3, led-none, led-arrived, led-ticked}
 use Rattle.demand_3.proofs.StandingLaws.{Standing, arrival-standing, tick-standing}
 use Rattle.demand_3.specs.Got.{WithinBandwidth}
-use Rattle.demand_3.specs.Live.{LiveDemand3}
 use Rattle.dispatcher.specs.Moves.{Answered, Turn, arrival, arrivalSays, tick, tickSays}
 use Rattle.dispatcher.specs.Pick.{serverAt}
 use Rattle.dispatcher.specs.declared.Arrived.{Arrived}

@@ -3,8 +3,8 @@
 ghost use Prim.Native.Nat.{_+_, _*_, _≤_, _<_};
 ghost use lib.ListN.{length};
 ghost use mathlib.Core.Path.{_≡_};
+ghost use Rattle.callers.specs.Traces.{InTime};
 ghost use Rattle.clock.specs.Clock.{lastTick};
-ghost use Rattle.demand_3.specs.Traces.{InTime};
 ghost use Rattle.judgement.proofs.FitLaws.{Fit};
 ghost use Rattle.sizes.specs.Sizes.{clockEnd, mostServers};
 ghost use Rattle.test_in_time.specs.working.Lists.{AfterRun, inRun, isDone, allDone, gotOf, gotBy};

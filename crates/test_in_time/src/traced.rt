@@ -3,7 +3,7 @@
 ghost use Prim.Native.Nat.{_*_};
 ghost use lib.ListN.{length};
 ghost use mathlib.Core.Path.{_≡_};
-ghost use Rattle.demand_3.specs.Traces.{InTime};
+ghost use Rattle.callers.specs.Traces.{InTime};
 ghost use Rattle.test_in_time.specs.working.Lists.{AfterRun};
 ghost use Rattle.test_in_time.specs.working.Segments.{AllInTime};
 use crate::bandwidth::Window;

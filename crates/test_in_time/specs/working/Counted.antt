@@ -1,6 +1,6 @@
 -- What this program knows of the ticks that it has counted.
 use Prim.Native.Nat.{ℕ, _≤_}
-use Rattle.demand_3.specs.Live.{LedCounting}
+use Rattle.callers.specs.Live.{LedCounting}
 use Rattle.dispatcher.specs.Within.{Within}
 use Rattle.dispatcher.specs.declared.Dispatcher.{Dispatcher}
 use Rattle.test_in_time.specs.declared.bandwidth.Window.{Window}

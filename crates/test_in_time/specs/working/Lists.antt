@@ -6,11 +6,11 @@ use mathlib.Core.Bool.{Bool, not, _&&_, _||_}
 use mathlib.Core.List.{List}
 use mathlib.Core.Path.{_≡_}
 use Rattle.arrival.specs.declared.Arrival.{Arrival}
+use Rattle.callers.specs.Traces.{ListDemand3}
 use Rattle.counting.specs.Below.{every}
 use Rattle.counting.specs.Sum.{sum}
 use Rattle.demand_3.specs.Files.{NoWorkAt}
 use Rattle.demand_3.specs.Got.{isUnder}
-use Rattle.demand_3.specs.Traces.{ListDemand3}
 use Rattle.judgement.proofs.FitLaws.{Fit}
 use Rattle.trace.specs.Ticks.{ticksOf}
 use Rattle.trace.specs.Written.{fitting, segmentIn}

@@ -1,8 +1,8 @@
 -- What this program knows of the dispatcher that it holds.
 use Rattle.booking.specs.Admission.{Table}
+use Rattle.callers.specs.Live.{Led}
 use Rattle.demand_3.proofs.StandingLaws.{Standing}
 use Rattle.demand_3.specs.Demand3.{Demand3}
-use Rattle.demand_3.specs.Live.{Led}
 use Rattle.dispatcher.specs.declared.Dispatcher.{Dispatcher}
 
 -- moves have led to it from a start of which demand 3 holds, and it is within the ranges of the moves, with the bookings of its table

@@ -1,6 +1,6 @@
 -- `test_in_time::lent::moves` meets its promise: each round goes on where the one before it has ended, so what they count adds up.
 use borrow.Author.Needs.{needs}
-use Rattle.demand_3.proofs.LiveLaws.{counting-further}
+use Rattle.callers.proofs.LiveLaws.{counting-further}
 use Rattle.test_in_time.proofs.lent.moves.Statement.{statement}
 use Rattle.test_in_time.proofs.lent.moves.Tie as tie
 

@@ -2,8 +2,8 @@
 use Prim.Native.Nat.{ℕ, _-_, _≤_, _<_}
 use mathlib.Core.Path.{_≡_, refl, _∙_, ap, subst⁻¹}
 use native.Mathlib.Omega.{arith}
+use Rattle.callers.specs.Traces.{InTime}
 use Rattle.counting.specs.Sum.{sum}
-use Rattle.demand_3.specs.Traces.{InTime}
 use Rattle.trace.specs.Written.{fitting, segmentIn}
 use Rattle.test_in_time.specs.working.Lists.{gotOf}
 use Rattle.test_in_time.proofs.ListsLaws.{sum-next, sum-next-small}

@@ -2,7 +2,7 @@
 use Prim.Native.Nat.{_-_, _≤_}
 use mathlib.Core.Path.{subst⁻¹}
 use native.Mathlib.Omega.{arith}
-use Rattle.demand_3.specs.Traces.{InTime}
+use Rattle.callers.specs.Traces.{InTime}
 use Rattle.test_in_time.proofs.traced.segments.Statement.{statement}
 use Rattle.test_in_time.proofs.traced.segments.Tie as tie
 

@@ -9,6 +9,10 @@ use native.Mathlib.Nat.{le-trans, mul-le-mul-right}
 use native.Mathlib.Omega.{arith}
 use Rattle.books.proofs.jobs.AllFinished.{list-finished-idle}
 use Rattle.clock.specs.Clock.{moment}
+use Rattle.demand_3.proofs.CourseLaws.{under-nobody}
+use Rattle.demand_3.proofs.FilesLaws.{file-demand-3}
+use Rattle.demand_3.specs.Files.{NoWorkAt, FileDemand3}
+use Rattle.demand_3.specs.Got.{isUnder}
 use Rattle.dispatcher.specs.Pick.{serverAt}
 use Rattle.moments.specs.Moments.{atMoment, history, waitingAt}
 use Rattle.refusal.specs.declared.Verdict.the-variants.{Accepted}
@@ -24,11 +28,7 @@ use Rattle.trace.specs.Trace.{trace}
 use Rattle.trace.specs.Written.{fitting, written}
 use Rattle.trace.specs.declared.Segment.{Segment}
 use Rattle.workfile.specs.Work.{Work, work}
-use Rattle.demand_3.specs.Got.{isUnder}
-use Rattle.demand_3.proofs.CourseLaws.{under-nobody}
-use Rattle.demand_3.specs.Files.{NoWorkAt, FileDemand3}
-use Rattle.demand_3.proofs.FilesLaws.{file-demand-3}
-use Rattle.demand_3.specs.Traces.{InTime, gotIn, TraceDemand3, ListDemand3, OfTheirTraces, OfTheirTraceLists}
+use Rattle.callers.specs.Traces.{InTime, gotIn, TraceDemand3, ListDemand3, OfTheirTraces, OfTheirTraceLists}
 
 -- a stretch of ticks under one deadline ends by it, since its last tick does
 stretch-in-time : {w : Work} → FileDemand3 w → (s : Segment) → Stretch (history w) (w .horizon .tick) s → InTime s

@@ -7,6 +7,11 @@ use native.Mathlib.Nat.{add-zero}
 use Rattle.clock.specs.Clock.{until}
 use Rattle.clock.specs.declared.Length.{Length}
 use Rattle.clock.specs.declared.Moment.{Moment}
+use Rattle.demand_3.proofs.CourseLaws.{under-nobody, after-both, after-last, got-both, got-last}
+use Rattle.demand_3.proofs.Demand3Laws.{admitted-demand-3}
+use Rattle.demand_3.proofs.StandingLaws.{Standing, start-standing, after-standing}
+use Rattle.demand_3.specs.Demand3.{Demand3}
+use Rattle.demand_3.specs.Got.{givenBy, isUnder, got}
 use Rattle.dispatcher.specs.Course.{Move, anArrival, aTick, moved, after}
 use Rattle.dispatcher.specs.Moves.{Answered, Turn, ranOne, arrival, arrivalSays, tick, tickSays, turnOf}
 use Rattle.dispatcher.specs.Pick.{serverAt}
@@ -20,12 +25,7 @@ use Rattle.opening.specs.declared.Opened.{Opened}
 use Rattle.refusal.specs.Refusals.{gave, accepted, onPaper}
 use Rattle.refusal.specs.declared.Verdict.the-variants.{Accepted}
 use Rattle.server.specs.Server.{idle}
-use Rattle.demand_3.specs.Got.{givenBy, isUnder, got}
-use Rattle.demand_3.proofs.CourseLaws.{under-nobody, after-both, after-last, got-both, got-last}
-use Rattle.demand_3.specs.Demand3.{Demand3}
-use Rattle.demand_3.proofs.Demand3Laws.{admitted-demand-3}
-use Rattle.demand_3.specs.Live.{Led, LedCounting, OfAcceptedOpenings, WhereverMovesLead}
-use Rattle.demand_3.proofs.StandingLaws.{Standing, start-standing, after-standing}
+use Rattle.callers.specs.Live.{Led, LedCounting, OfAcceptedOpenings, WhereverMovesLead}
 
 pub opening-demand-3 : OfAcceptedOpenings
 opening-demand-3 l H e =

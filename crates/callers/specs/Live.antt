@@ -6,6 +6,8 @@ use mathlib.Core.Path.{_≡_}
 use Rattle.booking.specs.Admission.{Table}
 use Rattle.clock.specs.declared.Length.{Length}
 use Rattle.clock.specs.declared.Moment.{Moment}
+use Rattle.demand_3.specs.Demand3.{Demand3}
+use Rattle.demand_3.specs.Got.{got, WithinBandwidth}
 use Rattle.dispatcher.specs.Course.{Move, after}
 use Rattle.dispatcher.specs.Moves.{tick, tickSays}
 use Rattle.dispatcher.specs.Pick.{serverAt}
@@ -15,8 +17,6 @@ use Rattle.dispatcher.specs.declared.Ticked.{Ticked}
 use Rattle.opening.specs.Opening.{listed, tableJudged, opening}
 use Rattle.refusal.specs.Refusals.{accepted}
 use Rattle.server.specs.Server.{idle}
-use Rattle.demand_3.specs.Got.{got, WithinBandwidth}
-use Rattle.demand_3.specs.Demand3.{Demand3}
 
 -- moves have led from one dispatcher to another
 pub record Led (start d : Dispatcher) : Type 0 where

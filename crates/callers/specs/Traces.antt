@@ -6,6 +6,8 @@ use mathlib.Core.Path.{_≡_}
 use Rattle.clock.specs.Clock.{moment}
 use Rattle.clock.specs.declared.Moment.{Moment}
 use Rattle.counting.specs.Sum.{sum}
+use Rattle.demand_3.specs.Files.{NoWorkAt}
+use Rattle.demand_3.specs.Got.{isUnder, WithinBandwidth}
 use Rattle.judgement.specs.Judgement.{judged}
 use Rattle.refusal.specs.Refusals.{accepted}
 use Rattle.run.specs.Outcome.{outcome}
@@ -15,8 +17,6 @@ use Rattle.trace.specs.Ticks.{endOf, ticksOf, sumOver}
 use Rattle.trace.specs.Written.{fitting, segmentIn}
 use Rattle.trace.specs.declared.Segment.{Segment}
 use Rattle.workfile.specs.Work.{Work, work}
-use Rattle.demand_3.specs.Got.{isUnder, WithinBandwidth}
-use Rattle.demand_3.specs.Files.{NoWorkAt}
 
 -- a segment, and so each of its ticks, ends no later than the deadline that it was given under
 abbrev pub InTime : Segment → Type 0
