@@ -3,7 +3,7 @@ use Prim.Native.Nat.{ℕ, zero, suc, _+_, _-_, _*_, _≤_, _<_}
 use borrow.Author.Tests.{eqb-true, eq-eqb}
 use lib.Dec.{eqb}
 use mathlib.Core.Bool.{Bool, true, false}
-use mathlib.Core.List.{_++_}
+use mathlib.Core.List.{List, _++_}
 use mathlib.Core.Logic.{inl, inr}
 use mathlib.Core.Path.{_≡_, refl, sym, _∙_, ap}
 use native.Mathlib.Decide.{decLt}
@@ -12,9 +12,9 @@ use native.Mathlib.Omega.{arith}
 use Rattle.clock.specs.Clock.{moment, until}
 use Rattle.clock.specs.declared.Moment.{Moment}
 use Rattle.counting.proofs.CountLaws.{count-empty}
-use Rattle.dispatcher.specs.Course.{after}
+use Rattle.dispatcher.specs.Course.{Move, after}
 use Rattle.dispatcher.specs.Moves.{Turn, idled, ranOne, tick}
-use Rattle.dispatcher.specs.Pick.{serverAt}
+use Rattle.dispatcher.specs.Pick.{serverAt, Earliest}
 use Rattle.dispatcher.specs.Start.{atStart}
 use Rattle.dispatcher.specs.Within.{Within}
 use Rattle.dispatcher.specs.declared.Dispatcher.{Dispatcher}
@@ -32,7 +32,7 @@ use Rattle.demand_3.specs.Demand3.{Demand3}
 use Rattle.demand_3.proofs.Demand3Laws.{admitted-demand-3}
 use Rattle.demand_3.specs.Files.{NoWorkAt, gotFrom, FileDemand3, OfAcceptedFiles}
 use Rattle.demand_3.proofs.MovedLaws.{arrival-waiting}
-use Rattle.demand_3.proofs.RunCourseLaws.{arrivalsOf, ready-course, movesFrom, run-course, run-got}
+use Rattle.demand_3.proofs.RunCourseLaws.{arrivalsAt, taken-course, movesFrom, run-course, run-got}
 
 -- the arrivals of a moment take no work away
 taken-waiting : (w : Work) (k : ℕ) {d : Dispatcher} → Within d → (i : ℕ)
@@ -56,18 +56,30 @@ module _ {w : Work} {places : ℕ} (fit : Fit w places) where
   unfolding atMoment
   at-reached a = let same : 0 + a ≡ a = omega arith in run-course w 0 a ∙ ap (atMoment w) same
 
-  ready-reached : (a : ℕ) → after (atStart (w .frame) (w .table)) (movesFrom w 0 a ++ arrivalsOf w a) ≡ ready w a
-  ready-reached a =
-      after-both (atStart (w .frame) (w .table)) (movesFrom w 0 a) (arrivalsOf w a)
-      ∙ ap (λ (d : Dispatcher). after d (arrivalsOf w a)) (at-reached a)
-      ∙ sym (ready-course w a)
+  -- those to moment a, and then its arrivals among the first k
+  abbrev movesTo : (a k : ℕ) → List Move
+  movesTo a k = movesFrom w 0 a ++ arrivalsAt w (atMoment w a .clock .tick) k
+
+  -- so with some of its arrivals taken, and once all are in
+  taken-reached : (a k : ℕ) → after (atStart (w .frame) (w .table)) (movesTo a k) ≡ taken w k (atMoment w a)
+  taken-reached a k =
+      after-both (atStart (w .frame) (w .table)) (movesFrom w 0 a) (arrivalsAt w (atMoment w a .clock .tick) k)
+      ∙ ap (λ (d : Dispatcher). after d (arrivalsAt w (atMoment w a .clock .tick) k)) (at-reached a)
+      ∙ sym (taken-course w (atMoment w a) k)
+
+  ready-reached : (a : ℕ) → after (atStart (w .frame) (w .table)) (movesTo a (w .arrivals)) ≡ ready w a
+  unfolding ready
+  ready-reached a = taken-reached a (w .arrivals)
 
   at-clock : (a : ℕ) → a ≤ w .horizon .tick → atMoment w a .clock ≡ moment a
   at-clock a h = at-keeps w a (le-trans h (fit .horizon)) .0
 
-  ready-clock : (a : ℕ) → a ≤ w .horizon .tick → ready w a .clock ≡ moment a
+  taken-clock : (a k : ℕ) → a ≤ w .horizon .tick → taken w k (atMoment w a) .clock ≡ moment a
+  taken-clock a k h = taken-keeps w k (atMoment w a) .0 ∙ at-clock a h
+
+  ready-count : (a : ℕ) → a ≤ w .horizon .tick → ready w a .count ≡ w .table .count
   unfolding ready
-  ready-clock a h = taken-keeps w (w .arrivals) (atMoment w a) .0 ∙ at-clock a h
+  ready-count a h = taken-keeps w (w .arrivals) (atMoment w a) .1 ∙ at-keeps w a (le-trans h (fit .horizon)) .1
 
   next-clock : (a : ℕ) → a < w .horizon .tick → tick (ready w a) .dispatcher .clock ≡ moment (suc a)
   unfolding atMoment ready
@@ -98,11 +110,30 @@ module _ {w : Work} {places : ℕ} (fit : Fit w places) where
           let bound = (rw (at-reached a) at (demand .bandwidth (movesFrom w 0 a) i known)) none b (movesFrom w a (w .horizon .tick - a)) in
           rw (run-got w i b a (w .horizon .tick - a), at-clock a (omega arith)) at bound
 
-  ahead : (i a : ℕ) → i < w .table .count → a ≤ w .horizon .tick → idle (serverAt (ready w a) i) ≡ false
+  -- The deadline of a server with work is ahead with some of the arrivals of a moment taken,
+  pub taken-ahead : (i a k : ℕ) → i < w .table .count → a ≤ w .horizon .tick → idle (serverAt (taken w k (atMoment w a)) i) ≡ false
+      → a < serverAt (taken w k (atMoment w a)) i .deadline .tick
+  taken-ahead i a k known h busy =
+      let later = (rw (taken-reached a k) at (demand .deadlines-ahead (movesTo a k) i known)) busy in
+      rw (taken-clock a k h) at later
+
+  -- before they are,
+  pub at-ahead : (i a : ℕ) → i < w .table .count → a ≤ w .horizon .tick → idle (serverAt (atMoment w a) i) ≡ false
+      → a < serverAt (atMoment w a) i .deadline .tick
+  unfolding taken
+  at-ahead i a = taken-ahead i a 0
+
+  -- and once all are in.
+  pub ready-ahead : (i a : ℕ) → i < w .table .count → a ≤ w .horizon .tick → idle (serverAt (ready w a) i) ≡ false
       → a < serverAt (ready w a) i .deadline .tick
-  ahead i a known h busy =
-      let later = (rw (ready-reached a) at (demand .deadlines-ahead (movesFrom w 0 a ++ arrivalsOf w a) i known)) busy in
-      rw (ready-clock a h) at later
+  unfolding ready
+  ready-ahead i a = taken-ahead i a (w .arrivals)
+
+  -- So the tick of a moment, which goes to the server that is picked then, ends by the deadline that it is given under.
+  pub picked-in-time : (i a : ℕ) → a < w .horizon .tick → Earliest (ready w a) (ready w a .count) i
+      → a + 1 ≤ serverAt (ready w a) i .deadline .tick
+  picked-in-time i a h first =
+      omega (arith, ready-ahead i a (omega (arith, first .among, ready-count a (omega arith))) (omega arith) (first .works))
 
   in-time : (i a : ℕ) (deadline : Moment) → a < w .horizon .tick → (said : Said Turn) → turn w a ≡ said
       → choiceOf said ≡ given i deadline → a + 1 ≤ deadline .tick
@@ -110,7 +141,7 @@ module _ {w : Work} {places : ℕ} (fit : Fit w places) where
   in-time i a deadline h (refused number place) q e = absurd (nobody≢given e)
   in-time i a deadline h (gave idled) q e = absurd (nobody≢given e)
   in-time i a deadline h (gave (ranOne j under postponed)) q e =
-      let later = (rw (ready-reached a) at (demand .ticks-in-time (movesFrom w 0 a ++ arrivalsOf w a) j under postponed)) q in
+      let later = (rw (ready-reached a) at (demand .ticks-in-time (movesTo a (w .arrivals)) j under postponed)) q in
       rw (sym (given-deadline e)) (omega (arith, rw (next-clock a h) at later))
 
   pub fit-demand-3 : FileDemand3 w
@@ -118,7 +149,7 @@ module _ {w : Work} {places : ℕ} (fit : Fit w places) where
   fit-demand-3 =
       record {
         bandwidth = λ i a known none b. bounded i a known (no-work-before i a none) b;
-        deadlines-ahead = ahead;
+        deadlines-ahead = ready-ahead;
         ticks-in-time = λ i a deadline h e. in-time i a deadline h (turn w a) refl e;
       }
 

@@ -18,12 +18,12 @@ use Rattle.demand_3.proofs.CourseLaws.{under-nobody, after-both, got-bo
 
 module _ (w : Work) where
   -- the arrivals at moment t among the first k
-  arrivalsAt : ℕ → ℕ → List Move
+  pub arrivalsAt : ℕ → ℕ → List Move
   arrivalsAt t zero = []
   arrivalsAt t (suc k) =
       arrivalsAt t k ++ cond (eqb (w .arrival k .moment .tick) t) (anArrival (w .arrival k .server) (w .arrival k .cost) ∷ []) []
 
-  taken-course : (d : Dispatcher) (k : ℕ) → taken w k d ≡ after d (arrivalsAt (d .clock .tick) k)
+  pub taken-course : (d : Dispatcher) (k : ℕ) → taken w k d ≡ after d (arrivalsAt (d .clock .tick) k)
   unfolding taken after arrivalsAt
   taken-course d zero = refl
   taken-course d (suc k) = go (eqb (w .arrival k .moment .tick) (d .clock .tick)) (taken-course d k)
@@ -50,14 +50,14 @@ module _ (w : Work) where
       go false so = ap (got i b d) (append-nil (arrivalsAt t k)) ∙ so
 
   -- all arrivals of moment a
-  pub arrivalsOf : ℕ → List Move
+  arrivalsOf : ℕ → List Move
   arrivalsOf a = arrivalsAt (atMoment w a .clock .tick) (w .arrivals)
 
   -- the moves of moment a
   abbrev movesOf : ℕ → List Move
   movesOf a = arrivalsOf a ++ aTick ∷ []
 
-  pub ready-course : (a : ℕ) → ready w a ≡ after (atMoment w a) (arrivalsOf a)
+  ready-course : (a : ℕ) → ready w a ≡ after (atMoment w a) (arrivalsOf a)
   unfolding ready arrivalsOf
   ready-course a = taken-course (atMoment w a) (w .arrivals)
 
