@@ -1,17 +1,16 @@
 -- Demand 3 holds for whoever calls the live moves: by their contracts, after a successful opening, whatever is accepted or refused then.
-use Prim.Native.Nat.{ℕ, _+_, _*_, _≤_, _<_}
+use Prim.Native.Nat.{ℕ, _+_, _≤_, _<_}
 use mathlib.Core.Bool.{Bool, true, cond}
 use mathlib.Core.List.{List, [], _∷_, _++_}
 use mathlib.Core.Path.{_≡_, refl, sym, _∙_, ap, ap₂, subst, subst⁻¹}
 use native.Mathlib.Nat.{add-zero}
-use Rattle.clock.specs.Clock.{until}
 use Rattle.clock.specs.declared.Length.{Length}
 use Rattle.clock.specs.declared.Moment.{Moment}
 use Rattle.demand_3.proofs.CourseLaws.{under-nobody, after-both, after-last, got-both, got-last}
 use Rattle.demand_3.proofs.Demand3Laws.{admitted-demand-3}
 use Rattle.demand_3.proofs.StandingLaws.{Standing, start-standing, after-standing}
 use Rattle.demand_3.specs.Demand3.{Demand3}
-use Rattle.demand_3.specs.Got.{givenBy, isUnder, got}
+use Rattle.demand_3.specs.Got.{givenBy, isUnder, got, WithinBandwidth}
 use Rattle.dispatcher.specs.Course.{Move, anArrival, aTick, moved, after}
 use Rattle.dispatcher.specs.Moves.{Answered, Turn, ranOne, arrival, arrivalSays, tick, tickSays, turnOf}
 use Rattle.dispatcher.specs.Pick.{serverAt}
@@ -43,7 +42,7 @@ live-demand-3 start t demand d led =
     }
   where
     bounded : (i : ℕ) → i < t .count → idle (serverAt d i) ≡ true → (b : Moment) (further : List Move)
-        → got i b d further * t .booking i .period .ticks ≤ until (d .clock) b .ticks * t .booking i .budget .ticks
+        → WithinBandwidth (t .booking i) (d .clock) b (got i b d further)
     bounded i known = rw (sym (led .to)) at (demand .bandwidth (led .moves) i known)
 
     in-time : (i : ℕ) (deadline : Moment) (postponed : Bool) → tick d .answer ≡ gave (ranOne i deadline postponed)
@@ -69,24 +68,33 @@ module _ (l : List ℕ) (H : Length) (r : Opened) (e : openingSays r ≡ opening
       (start-standing H (listed l) (sizes .from) (sizes .to) (sizes .few) (accepted-admitted l H opened-judged))
       (led .moves))
 
--- How a caller gets on, move by move, by the contracts of `arrival` and `tick`.
+-- What the contracts of `arrival` and `tick` say of the dispatcher: it is the one after that move.
+arrived-moved : (d : Dispatcher) (r : Arrived) (i : ℕ) (cost : Length) → arrivalSays r ≡ arrival d i cost
+    → r .dispatcher ≡ moved d (anArrival i cost)
+arrived-moved d r i cost e = ap (λ (m : Answered (Unit {0})). m .dispatcher) e
+
+ticked-moved : (d : Dispatcher) (r : Ticked) → tickSays r ≡ tick d → r .dispatcher ≡ moved d aTick
+ticked-moved d r e = ap (λ (m : Answered Turn). m .dispatcher) e
+
+-- So moves have led there, with one more at their end.
+moved-on : (start : Dispatcher) {d e : Dispatcher} (moves : List Move) → d ≡ after start moves → (m : Move) → e ≡ moved d m
+    → e ≡ after start (moves ++ m ∷ [])
+moved-on start moves to m is = is ∙ ap (λ (x : Dispatcher). moved x m) to ∙ sym (after-last start moves m)
+
+-- How a caller gets on, move by move.
 pub led-none : (d : Dispatcher) → Led d d
 unfolding after
 led-none d = record { moves = []; to = refl }
 
 module _ {start d : Dispatcher} (led : Led start d) where
   pub led-moved : (m : Move) (e : Dispatcher) → e ≡ moved d m → Led start e
-  led-moved m e is =
-      record {
-        moves = led .moves ++ m ∷ [];
-        to = is ∙ ap (λ (x : Dispatcher). moved x m) (led .to) ∙ sym (after-last start (led .moves) m);
-      }
+  led-moved m e is = record { moves = led .moves ++ m ∷ []; to = moved-on start (led .moves) (led .to) m is }
 
   pub led-arrived : (r : Arrived) (i : ℕ) (cost : Length) → arrivalSays r ≡ arrival d i cost → Led start (r .dispatcher)
-  led-arrived r i cost e = led-moved (anArrival i cost) (r .dispatcher) (ap (λ (m : Answered (Unit {0})). m .dispatcher) e)
+  led-arrived r i cost e = led-moved (anArrival i cost) (r .dispatcher) (arrived-moved d r i cost e)
 
   pub led-ticked : (r : Ticked) → tickSays r ≡ tick d → Led start (r .dispatcher)
-  led-ticked r e = led-moved aTick (r .dispatcher) (ap (λ (m : Answered Turn). m .dispatcher) e)
+  led-ticked r e = led-moved aTick (r .dispatcher) (ticked-moved d r e)
 
 -- And how it counts.
 pub counting-none : (i : ℕ) (b : Moment) (d : Dispatcher) → LedCounting i b d d 0
@@ -99,7 +107,7 @@ module _ {i : ℕ} {b : Moment} {start d : Dispatcher} {n : ℕ} (led : LedCount
   counting-moved m e is more adds =
       record {
         moves = led .moves ++ m ∷ [];
-        to = is ∙ ap (λ (x : Dispatcher). moved x m) (led .to) ∙ sym (after-last start (led .moves) m);
+        to = moved-on start (led .moves) (led .to) m is;
         counted =
             ap₂ _+_ (led .counted) (adds ∙ ap (λ (x : Dispatcher). cond (isUnder i b (givenBy x m)) 1 0) (led .to))
             ∙ sym (got-last i b start (led .moves) m);
@@ -120,11 +128,11 @@ module _ {i : ℕ} {b : Moment} {start d : Dispatcher} {n : ℕ} (led : LedCount
   pub counting-arrived : (r : Arrived) (j : ℕ) (cost : Length) → arrivalSays r ≡ arrival d j cost → LedCounting i b start (r .dispatcher) n
   counting-arrived r j cost e =
       subst (LedCounting i b start (r .dispatcher)) (add-zero n)
-      (counting-moved (anArrival j cost) (r .dispatcher) (ap (λ (m : Answered (Unit {0})). m .dispatcher) e) 0 (rw (under-nobody i b)))
+      (counting-moved (anArrival j cost) (r .dispatcher) (arrived-moved d r j cost e) 0 (rw (under-nobody i b)))
 
   -- a tick counts one where it answers server i and a deadline no later than b
   pub counting-ticked : (r : Ticked) → tickSays r ≡ tick d
       → LedCounting i b start (r .dispatcher) (n + cond (isUnder i b (choiceOf (turnOf (r .answer)))) 1 0)
   counting-ticked r e =
-      counting-moved aTick (r .dispatcher) (ap (λ (m : Answered Turn). m .dispatcher) e) _
+      counting-moved aTick (r .dispatcher) (ticked-moved d r e) _
       (ap (λ (m : Answered Turn). cond (isUnder i b (choiceOf (m .answer))) 1 0) e)

@@ -19,12 +19,12 @@ use Rattle.refusal.specs.declared.Verdict.the-variants.{Accepted}
 use Rattle.run.proofs.OutcomeLaws.{outcome-accepted, ran-judged, ran-accepting}
 use Rattle.run.specs.Outcome.{Outcome, runSays, outcome}
 use Rattle.run.specs.declared.Ran.{Ran}
+use Rattle.summary.specs.Summary.{traceOf}
 use Rattle.trace.proofs.HeldLaws.{held-has, held-added}
 use Rattle.trace.proofs.SegmentLaws.{every-map, trace-stretches}
 use Rattle.trace.proofs.TickLaws.{trace-counted}
 use Rattle.trace.proofs.WrittenLaws.{written-length}
 use Rattle.trace.specs.Segments.{Stretch}
-use Rattle.trace.specs.Trace.{trace}
 use Rattle.trace.specs.Written.{fitting, written}
 use Rattle.trace.specs.declared.Segment.{Segment}
 use Rattle.workfile.specs.Work.{Work, work}
@@ -42,15 +42,13 @@ stretch-in-time {w} ok s one =
 by-segments : {w : Work} → FileDemand3 w → TraceDemand3 w
 by-segments {w} ok =
     record {
-      in-time =
-          every-map (stretch-in-time ok) (trace (history w) (w .horizon .tick)) (trace-stretches (history w) (w .horizon .tick));
+      in-time = every-map (stretch-in-time ok) (traceOf w) (trace-stretches (history w) (w .horizon .tick));
       bandwidth = λ i a known none b.
           rw (trace-counted (history w) (isUnder i b) (under-nobody i b) (moment a) (w .horizon .tick)) (ok .bandwidth i a known none b);
     }
 
 -- and of the segments that are written to a list
-written-demand-3 : {w : Work} → TraceDemand3 w → (list : List ℕ)
-    → ListDemand3 w (length (trace (history w) (w .horizon .tick))) (written (trace (history w) (w .horizon .tick)) list)
+written-demand-3 : {w : Work} → TraceDemand3 w → (list : List ℕ) → ListDemand3 w (length (traceOf w)) (written (traceOf w) list)
 written-demand-3 {w} ok list =
     record {
       in-time = λ k h. held-has InTime tr list (ok .in-time) k (omega arith) (omega (arith, written-length tr list));
@@ -62,7 +60,7 @@ written-demand-3 {w} ok list =
     }
   where
     tr : List Segment
-    tr = trace (history w) (w .horizon .tick)
+    tr = traceOf w
 
 pub trace-demand-3 : OfTheirTraces
 trace-demand-3 file places e = by-segments (file-demand-3 file places e)

@@ -119,8 +119,12 @@ module _ {H : Length} {t : Table} (some : 1 ≤ H .ticks) (admitted : Admitted H
         (ok .covers b)))
 
     -- where every server with work and budget has a later deadline, each server can get no more than its share
-    beyond-covers : ((i : ℕ) → i < t .count → idle (serverAt d i) ≡ false → 1 ≤ serverAt d i .remaining .ticks → b .tick < serverAt d i .deadline .tick)
-        → CoversNext
+    abbrev AllBeyond : Type 0
+    AllBeyond =
+        (i : ℕ) → i < t .count → idle (serverAt d i) ≡ false → 1 ≤ serverAt d i .remaining .ticks
+        → b .tick < serverAt d i .deadline .tick
+
+    beyond-covers : AllBeyond → CoversNext
     beyond-covers beyond = shares-cover (next .clock) b (canGet H b next) (λ i known. each i known (tick-server (ok .standing .within) i))
       where
         standing : Standing t next

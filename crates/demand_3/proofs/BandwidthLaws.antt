@@ -28,7 +28,7 @@ use Rattle.server.proofs.PotentialLaws.{Booked, arrived-potential, later-potent
 use Rattle.server.proofs.RangeLaws.{busy-charged}
 use Rattle.server.specs.Moves.{served}
 use Rattle.server.specs.Server.{idle}
-use Rattle.demand_3.specs.Got.{isUnder, got}
+use Rattle.demand_3.specs.Got.{isUnder, got, WithinBandwidth}
 use Rattle.demand_3.proofs.CourseLaws.{under-away, under-nobody, under-own}
 use Rattle.demand_3.proofs.MovedLaws.{ArrivalServer, passes, brings, TickServer, leaves, serves, arrival-server, tick-server, tick-clock}
 use Rattle.demand_3.proofs.StandingLaws.{Standing, standing-booked, arrival-standing, tick-standing}
@@ -90,8 +90,7 @@ module _ {H : Length} {t : Table} (admitted : Admitted H t) (b : Moment) where
 
   -- and an idle server can get no more than its share from then on
   pub bandwidth : 1 ≤ H .ticks → {d : Dispatcher} → Standing t d → (i : ℕ) → i < t .count → idle (serverAt d i) ≡ true
-      → (moves : List Move)
-      → got i b d moves * t .booking i .period .ticks ≤ until (d .clock) b .ticks * t .booking i .budget .ticks
+      → (moves : List Move) → WithinBandwidth (t .booking i) (d .clock) b (got i b d moves)
   bandwidth some {d} ok i known rests moves =
       le-of-mul-le-mul-right {k = H .ticks}
       (omega (

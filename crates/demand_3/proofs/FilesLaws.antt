@@ -1,5 +1,5 @@
 -- Demand 3 holds of the run of every accepted file, since that is a course of live moves from an admitted table's start.
-use Prim.Native.Nat.{ℕ, zero, suc, _+_, _-_, _*_, _≤_, _<_}
+use Prim.Native.Nat.{ℕ, zero, suc, _+_, _-_, _≤_, _<_}
 use borrow.Author.Tests.{eqb-true, eq-eqb}
 use lib.Dec.{eqb}
 use mathlib.Core.Bool.{Bool, true, false}
@@ -9,7 +9,7 @@ use mathlib.Core.Path.{_≡_, refl, sym, _∙_, ap}
 use native.Mathlib.Decide.{decLt}
 use native.Mathlib.Nat.{le-trans}
 use native.Mathlib.Omega.{arith}
-use Rattle.clock.specs.Clock.{moment, until}
+use Rattle.clock.specs.Clock.{moment}
 use Rattle.clock.specs.declared.Moment.{Moment}
 use Rattle.counting.proofs.CountLaws.{count-empty}
 use Rattle.dispatcher.specs.Course.{Move, after}
@@ -26,7 +26,7 @@ use Rattle.moments.specs.Moments.{taken, atMoment, ready, turn, choiceOf, histo
 use Rattle.refusal.specs.Refusals.{Said, refused, gave}
 use Rattle.server.specs.Server.{idle}
 use Rattle.workfile.specs.Work.{Work}
-use Rattle.demand_3.specs.Got.{isUnder}
+use Rattle.demand_3.specs.Got.{isUnder, WithinBandwidth}
 use Rattle.demand_3.proofs.CourseLaws.{after-both}
 use Rattle.demand_3.specs.Demand3.{Demand3}
 use Rattle.demand_3.proofs.Demand3Laws.{admitted-demand-3}
@@ -47,12 +47,19 @@ taken-waiting w (suc k) {d} ok i = go (eqb (w .arrival k .moment .tick) (d .cloc
     go true e before = rw e (le-trans before (arrival-waiting (taken-within w k ok) (w .arrival k .server) (w .arrival k .cost) i))
     go false e before = rw e before
 
+-- server i of a dispatcher at moment a, if it has work waiting, has its deadline ahead
+abbrev pub Ahead : (i a : ℕ) → Dispatcher → Type 0
+Ahead i a d = idle (serverAt d i) ≡ false → a < serverAt d i .deadline .tick
+
 module _ {w : Work} {places : ℕ} (fit : Fit w places) where
-  demand : Demand3 (atStart (w .frame) (w .table)) (w .table)
+  abbrev start : Dispatcher
+  start = atStart (w .frame) (w .table)
+
+  demand : Demand3 start (w .table)
   demand = admitted-demand-3 (w .frame) (w .table) (fit .frame-from) (fit .frame-to) (fit .servers) (fit .admitted)
 
   -- where the run stands at a moment, moves from the start have led to
-  at-reached : (a : ℕ) → after (atStart (w .frame) (w .table)) (movesFrom w 0 a) ≡ atMoment w a
+  at-reached : (a : ℕ) → after start (movesFrom w 0 a) ≡ atMoment w a
   unfolding atMoment
   at-reached a = let same : 0 + a ≡ a = omega arith in run-course w 0 a ∙ ap (atMoment w) same
 
@@ -61,13 +68,13 @@ module _ {w : Work} {places : ℕ} (fit : Fit w places) where
   movesTo a k = movesFrom w 0 a ++ arrivalsAt w (atMoment w a .clock .tick) k
 
   -- so with some of its arrivals taken, and once all are in
-  taken-reached : (a k : ℕ) → after (atStart (w .frame) (w .table)) (movesTo a k) ≡ taken w k (atMoment w a)
+  taken-reached : (a k : ℕ) → after start (movesTo a k) ≡ taken w k (atMoment w a)
   taken-reached a k =
-      after-both (atStart (w .frame) (w .table)) (movesFrom w 0 a) (arrivalsAt w (atMoment w a .clock .tick) k)
+      after-both start (movesFrom w 0 a) (arrivalsAt w (atMoment w a .clock .tick) k)
       ∙ ap (λ (d : Dispatcher). after d (arrivalsAt w (atMoment w a .clock .tick) k)) (at-reached a)
       ∙ sym (taken-course w (atMoment w a) k)
 
-  ready-reached : (a : ℕ) → after (atStart (w .frame) (w .table)) (movesTo a (w .arrivals)) ≡ ready w a
+  ready-reached : (a : ℕ) → after start (movesTo a (w .arrivals)) ≡ ready w a
   unfolding ready
   ready-reached a = taken-reached a (w .arrivals)
 
@@ -98,11 +105,10 @@ module _ {w : Work} {places : ℕ} (fit : Fit w places) where
       ))
 
   bounded : (i a : ℕ) → i < w .table .count → idle (serverAt (atMoment w a) i) ≡ true → (b : Moment)
-      → gotFrom w i a b * w .table .booking i .period .ticks ≤ until (moment a) b .ticks * w .table .booking i .budget .ticks
+      → WithinBandwidth (w .table .booking i) (moment a) b (gotFrom w i a b)
   bounded i a known none b = go (decLt (w .horizon .tick) a)
     where
-      go : Dec (w .horizon .tick < a)
-          → gotFrom w i a b * w .table .booking i .period .ticks ≤ until (moment a) b .ticks * w .table .booking i .budget .ticks
+      go : Dec (w .horizon .tick < a) → WithinBandwidth (w .table .booking i) (moment a) b (gotFrom w i a b)
       go (yes h) =
           let over : w .horizon .tick - a ≡ 0 = omega arith in
           rw (over, count-empty (λ q. isUnder i b (history w (a + q)))) (omega arith)
@@ -111,21 +117,18 @@ module _ {w : Work} {places : ℕ} (fit : Fit w places) where
           rw (run-got w i b a (w .horizon .tick - a), at-clock a (omega arith)) at bound
 
   -- The deadline of a server with work is ahead with some of the arrivals of a moment taken,
-  pub taken-ahead : (i a k : ℕ) → i < w .table .count → a ≤ w .horizon .tick → idle (serverAt (taken w k (atMoment w a)) i) ≡ false
-      → a < serverAt (taken w k (atMoment w a)) i .deadline .tick
+  pub taken-ahead : (i a k : ℕ) → i < w .table .count → a ≤ w .horizon .tick → Ahead i a (taken w k (atMoment w a))
   taken-ahead i a k known h busy =
       let later = (rw (taken-reached a k) at (demand .deadlines-ahead (movesTo a k) i known)) busy in
       rw (taken-clock a k h) at later
 
   -- before they are,
-  pub at-ahead : (i a : ℕ) → i < w .table .count → a ≤ w .horizon .tick → idle (serverAt (atMoment w a) i) ≡ false
-      → a < serverAt (atMoment w a) i .deadline .tick
+  pub at-ahead : (i a : ℕ) → i < w .table .count → a ≤ w .horizon .tick → Ahead i a (atMoment w a)
   unfolding taken
   at-ahead i a = taken-ahead i a 0
 
   -- and once all are in.
-  pub ready-ahead : (i a : ℕ) → i < w .table .count → a ≤ w .horizon .tick → idle (serverAt (ready w a) i) ≡ false
-      → a < serverAt (ready w a) i .deadline .tick
+  pub ready-ahead : (i a : ℕ) → i < w .table .count → a ≤ w .horizon .tick → Ahead i a (ready w a)
   unfolding ready
   ready-ahead i a = taken-ahead i a (w .arrivals)
 
