@@ -18,10 +18,10 @@ use Rattle.dispatcher.specs.declared.Arrived.{Arrived}
 use Rattle.dispatcher.specs.declared.Dispatcher.{Dispatcher}
 use Rattle.dispatcher.specs.declared.Ticked.{Ticked}
 use Rattle.moments.specs.Moments.{choiceOf}
-use Rattle.opening.proofs.OpeningLaws.{accepted-in-range, accepted-admitted, opening-accepted}
+use Rattle.opening.proofs.OpeningLaws.{accepted-in-range, accepted-admitted, opening-accepted, opened-judged}
 use Rattle.opening.specs.Opening.{listed, tableJudged, opening, openingSays}
 use Rattle.opening.specs.declared.Opened.{Opened}
-use Rattle.refusal.specs.Refusals.{gave, accepted, onPaper}
+use Rattle.refusal.specs.Refusals.{gave, accepted}
 use Rattle.refusal.specs.declared.Verdict.the-variants.{Accepted}
 use Rattle.server.specs.Server.{idle}
 use Rattle.callers.specs.Live.{Led, LedCounting, OfAcceptedOpenings, WhereverMovesLead}
@@ -51,21 +51,20 @@ live-demand-3 start t demand d led =
 
 -- What a caller has by the contract of `open_table`, where it answers `Accepted`.
 module _ (l : List ℕ) (H : Length) (r : Opened) (e : openingSays r ≡ opening l H) (answer : r .answer ≡ Accepted) where
-  opened-judged : tableJudged l H ≡ accepted
-  unfolding opening
-  opened-judged = sym (ap (λ (m : Answered (Unit {0})). m .answer) e) ∙ ap onPaper answer
+  judges : tableJudged l H ≡ accepted
+  judges = opened-judged l H r e answer
 
   pub opened-demand-3 : Demand3 (r .dispatcher) (listed l)
   opened-demand-3 =
-      subst⁻¹ (λ (m : Answered (Unit {0})). Demand3 (m .dispatcher) (listed l)) e (opening-demand-3 l H opened-judged)
+      subst⁻¹ (λ (m : Answered (Unit {0})). Demand3 (m .dispatcher) (listed l)) e (opening-demand-3 l H judges)
 
   -- its numbers lie within their ranges, and its servers are those of the table, also wherever moves lead
   pub opened-standing : {d : Dispatcher} → Led (r .dispatcher) d → Standing (listed l) d
   opened-standing led =
-      let sizes = accepted-in-range l H opened-judged in
-      rw (led .to, ap (λ (m : Answered (Unit {0})). m .dispatcher) e, opening-accepted l H opened-judged)
+      let sizes = accepted-in-range l H judges in
+      rw (led .to, ap (λ (m : Answered (Unit {0})). m .dispatcher) e, opening-accepted l H judges)
       (after-standing
-      (start-standing H (listed l) (sizes .from) (sizes .to) (sizes .few) (accepted-admitted l H opened-judged))
+      (start-standing H (listed l) (sizes .from) (sizes .to) (sizes .few) (accepted-admitted l H judges))
       (led .moves))
 
 -- What the contracts of `arrival` and `tick` say of the dispatcher: it is the one after that move.

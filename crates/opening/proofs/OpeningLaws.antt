@@ -5,7 +5,7 @@ use lib.Dec.{ltb}
 use lib.ListN.{length}
 use mathlib.Core.Bool.{true, false}
 use mathlib.Core.List.{List}
-use mathlib.Core.Path.{_≡_, refl}
+use mathlib.Core.Path.{_≡_, refl, sym, _∙_, ap}
 use native.Mathlib.Nat.{not-suc-le-zero}
 use native.Mathlib.Omega.{arith}
 use Rattle.booking.proofs.AdmissionLaws.{Admitted, admitted}
@@ -15,12 +15,15 @@ use Rattle.clock.specs.Clock.{ticks}
 use Rattle.clock.specs.declared.Length.{Length}
 use Rattle.counting.proofs.TestLaws.{none-of-four}
 use Rattle.dispatcher.proofs.StartLaws.{admitted-within, start-within}
+use Rattle.dispatcher.specs.Moves.{Answered}
 use Rattle.dispatcher.specs.Start.{atStart}
 use Rattle.dispatcher.specs.Within.{Within}
 use Rattle.refusal.proofs.AcceptedLaws.{accepted-test}
-use Rattle.refusal.specs.Refusals.{Said, refused, gave, accepted}
+use Rattle.refusal.specs.Refusals.{Said, refused, gave, accepted, onPaper}
+use Rattle.refusal.specs.declared.Verdict.the-variants.{Accepted}
 use Rattle.sizes.specs.Sizes.{mostFrame, mostServers}
-use Rattle.opening.specs.Opening.{listed, outOfRange, tableJudged, noServers, opening}
+use Rattle.opening.specs.Opening.{listed, outOfRange, tableJudged, noServers, opening, openingSays}
+use Rattle.opening.specs.declared.Opened.{Opened}
 
 pub judged-out-of-range : (l : List ℕ) (H : Length) → outOfRange (length l) H ≡ true → tableJudged l H ≡ refused 2 0
 unfolding tableJudged
@@ -68,6 +71,12 @@ pub opening-refused : (l : List ℕ) (H : Length) (number place : ℕ) → table
     → opening l H ≡ record { answer = refused number place; dispatcher = noServers }
 unfolding opening
 opening-refused l H number place e = rw e
+
+-- a call that answers `Accepted` has judged so
+pub opened-judged : (l : List ℕ) (H : Length) (r : Opened) → openingSays r ≡ opening l H → r .answer ≡ Accepted
+    → tableJudged l H ≡ accepted
+unfolding opening
+opened-judged l H r said answer = sym (ap (λ (m : Answered (Unit {0})). m .answer) said) ∙ ap onPaper answer
 
 -- every opening, a refused one too, lands within the ranges
 noServers-within : Within noServers
