@@ -3,10 +3,12 @@
 //     files FOLDER run      those of bench/run and bench/stack, under the names in the list at the end
 //     files FOLDER growth   those of bench/growth: FOLDER/nothing, FOLDER/segments-0, FOLDER/segments-1 .. and the same
 //                           of arrivals and servers
+//     files FOLDER ticks    those of bench/ticks: for 1, 8 and 64 servers FOLDER/ticks-N, over the longest horizon, and
+//                           FOLDER/start-N, the same with the horizon 0
 
 #include "../tests/plain/work_file.h"
 
-enum { SERVERS_IN_USE = 64, LONGEST = 2419200, WEEK = 604800 };
+enum { SERVERS_IN_USE = MOST_SERVERS, LONGEST = LONGEST_HORIZON, WEEK = LARGEST_FRAME };
 
 // ---- Those of bench/run ----
 
@@ -69,7 +71,7 @@ static void one_alone(void)
 // As many arrivals as a file takes, with about 1.2 times the work that the node can do.
 static void overload(void)
 {
-    enum { ARRIVING = 4096, MEAN = LONGEST / ARRIVING * 12 / 10 };
+    enum { ARRIVING = MOST_ARRIVALS, MEAN = LONGEST / ARRIVING * 12 / 10 };
     many_servers();
     for (u32 k = 0; k < ARRIVING; k++) {
         u32 server = below(SERVERS_IN_USE);
@@ -107,6 +109,22 @@ static void growing_servers(u32 step)
     jobs_from_the_beginning(SERVERS_IN_USE);
 }
 
+// ---- Those of bench/ticks ----
+
+// The servers share the whole frame evenly, under several periods. Work for longer than the horizon is there from the start, so every
+// server stays busy.
+static void busy_servers(u32 servers, u32 ticks)
+{
+    static const u32 periods[] = {64, 128, 192, 320, 448, 576};
+    begin(WEEK, ticks);
+    for (u32 s = 0; s < servers; s++) {
+        u32 t = periods[s % 6];
+        add_server(t / servers, t);
+        for (u32 work = 0; work <= LONGEST / servers; work += WEEK)
+            add_arrival(0, s, WEEK);
+    }
+}
+
 // ---- The lists ----
 
 static const struct {
@@ -124,13 +142,17 @@ static struct {
     void (*make)(u32 step);
 } growing[] = {{"segments-?", growing_segments}, {"arrivals-?", growing_arrivals}, {"servers-?", growing_servers}};
 
-static int save_files(const char *folder)
+static const struct {
+    u32 servers;
+    const char *ticks, *start;
+} busy[] = {{1, "ticks-1", "start-1"}, {8, "ticks-8", "start-8"}, {64, "ticks-64", "start-64"}};
+
+static int save_run(const char *folder)
 {
     for (u32 i = 0; i < sizeof files / sizeof *files; i++) {
         seed = i;
         files[i].make();
-        encode(0, 0, 0);
-        if (!save(folder, files[i].name))
+        if (!save_table(folder, files[i].name))
             return 0;
     }
     return 1;
@@ -139,8 +161,7 @@ static int save_files(const char *folder)
 static int save_growing(const char *folder)
 {
     nothing();
-    encode(0, 0, 0);
-    if (!save(folder, "nothing"))
+    if (!save_table(folder, "nothing"))
         return 0;
     for (u32 i = 0; i < sizeof growing / sizeof *growing; i++)
         for (u32 step = 0; step < STEPS; step++) {
@@ -149,10 +170,22 @@ static int save_growing(const char *folder)
                 place++;
             *place = (char)('0' + step);
             growing[i].make(step);
-            encode(0, 0, 0);
-            if (!save(folder, growing[i].name))
+            if (!save_table(folder, growing[i].name))
                 return 0;
         }
+    return 1;
+}
+
+static int save_ticks(const char *folder)
+{
+    for (u32 i = 0; i < sizeof busy / sizeof *busy; i++) {
+        busy_servers(busy[i].servers, LONGEST);
+        if (!save_table(folder, busy[i].ticks))
+            return 0;
+        busy_servers(busy[i].servers, 0);
+        if (!save_table(folder, busy[i].start))
+            return 0;
+    }
     return 1;
 }
 
@@ -166,9 +199,13 @@ static int same(const char *a, const char *b)
 
 int main(int count, char **arguments)
 {
-    if (count == 3 && same(arguments[2], "run"))
-        return save_files(arguments[1]) ? 0 : 1;
-    if (count == 3 && same(arguments[2], "growth"))
-        return save_growing(arguments[1]) ? 0 : 1;
+    static const struct {
+        const char *word;
+        int (*save)(const char *folder);
+    } parts[] = {{"run", save_run}, {"growth", save_growing}, {"ticks", save_ticks}};
+
+    for (u32 i = 0; count == 3 && i < sizeof parts / sizeof *parts; i++)
+        if (same(arguments[2], parts[i].word))
+            return parts[i].save(arguments[1]) ? 0 : 1;
     return 2;
 }

@@ -1,6 +1,11 @@
 # shellcheck shell=bash
 # Read by the scripts of this folder that measure programs: their options, the programs that they measure, and how that is done. Such a script says
-# what it does in a function `help`, keeps the caller's folder in `from`, and goes to the top folder before it reads this.
+# what it does in a function `help` before it reads this. It is then in the top folder, and `from` is the caller's.
+
+# `time` prints a comma where the language of the place does, and awk would read it as an end.
+export LC_ALL=C
+from=$PWD
+CDPATH='' cd "$(dirname "$0")/.." || exit 2
 
 misused() {
 	help >&2
@@ -9,7 +14,6 @@ misused() {
 
 # --runs is for those that take the median of several measurements: they say how many in `runs` before they take the options.
 unset -v runs
-# shellcheck disable=SC2154 # from is set by the script
 take_options() { # CRATE of the program that is measured, [OPTION..]
 	crate=$1
 	program=target/bin/$crate

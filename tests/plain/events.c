@@ -99,11 +99,9 @@ static void serve_jobs(u32 s, u64 from, u64 to)
     left_of_job[job] -= to - from;
 }
 
-// The budget is spent: it is refilled at once, even where no work is left.
-static void postpone(u32 s)
+static void postpone_and_set_key(u32 s)
 {
-    remaining[s] = budget[s];
-    deadline[s] += period[s];
+    postpone(s);
     postponed[s]++;
     set_key(s, key_under(deadline[s], s));
 }
@@ -135,7 +133,7 @@ static u64 give_node_to(u32 s, u64 now, u64 until)
     note_ticks(now, to - now, s, deadline[s]);
     remaining[s] -= to - now;
     if (remaining[s] == 0) {
-        postpone(s);
+        postpone_and_set_key(s);
         if (to < end && first_server() == s)
             to = spend_whole_budgets(s, to, end);
     }

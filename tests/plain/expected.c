@@ -12,12 +12,6 @@
 #include "report.c"
 #include "events.c"
 
-int open(const char *path, int flags, ...);
-int close(int file);
-
-enum { READ = 0, WRITE_NEW = 01 | 0100 | 01000 }; // O_RDONLY; O_WRONLY, O_CREAT and O_TRUNC on x86-64 Linux
-
-static char path[4096];
 static char expected_text[sizeof text];
 static u64 expected_length;
 
@@ -29,31 +23,18 @@ static u64 number_of(const char *digits)
     return number;
 }
 
-// FOLDER/NNNN and an ending. Answers whether it fits.
-static int set_path(const char *folder, u64 number, const char *ending)
+// Makes `path` FOLDER/NNNN and an ending. Answers whether it fits.
+static int set_numbered_path(const char *folder, u64 number, const char *ending)
 {
-    u64 at = 0;
-    while (*folder && at < sizeof path - 32)
-        path[at++] = *folder++;
-    path[at++] = '/';
-    for (u64 unit = 1000; unit > 0; unit /= 10)
-        path[at++] = '0' + number / unit % 10;
-    while (*ending)
-        path[at++] = *ending++;
-    path[at] = 0;
-    return !*folder;
+    char name[5];
+    digits_of(number, 4, name);
+    return set_path(folder, name, ending);
 }
 
 // Writes the text to FOLDER/NNNN and an ending.
 static int save_text(const char *folder, u64 number, const char *ending)
 {
-    if (!set_path(folder, number, ending))
-        return 0;
-    int out = open(path, WRITE_NEW, 0644);
-    if (out < 0)
-        return 0;
-    int written = write_text(out);
-    return close(out) == 0 && written;
+    return set_numbered_path(folder, number, ending) && save_bytes(text, text_length);
 }
 
 static void keep_text(void)
@@ -92,7 +73,7 @@ int main(int count, char **arguments)
     const char *folder = arguments[1];
     u64 step = number_of(arguments[3]);
     for (u64 number = number_of(arguments[2]);; number += step) {
-        int in = set_path(folder, number, "") ? open(path, READ) : -1;
+        int in = set_numbered_path(folder, number, "") ? open(path, READ) : -1;
         if (in < 0)
             return 0; // the caller sees by its own count whether one is missing
         int got = read_file(in);

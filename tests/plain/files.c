@@ -691,16 +691,6 @@ static u64 seed_of(const char *name, u32 k)
     return mixed + ((u64)k << 32);
 }
 
-// The last digits of a number, with a 0 behind them.
-static void digits_of(u32 value, u32 digits, char *text)
-{
-    text[digits] = 0;
-    while (digits > 0) {
-        text[--digits] = (char)('0' + value % 10);
-        value /= 10;
-    }
-}
-
 static void tell(const char *name, u32 count)
 {
     char line[64], digits[5];

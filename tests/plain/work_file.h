@@ -2,15 +2,9 @@
 // Nothing here depends on time, machine or chance: the same seed gives the same files. C leaves open which argument of a call is
 // worked out first, so no expression draws two numbers whose order it leaves open.
 
-typedef unsigned char u8;
-typedef unsigned int u32;
-typedef unsigned long long u64;
+#pragma once
 
-int open(const char *path, int flags, ...);
-int close(int file);
-long write(int file, const void *bytes, unsigned long count);
-
-enum { WRITE_NEW = 01 | 0100 | 01000 }; // O_WRONLY, O_CREAT and O_TRUNC on x86-64 Linux
+#include "plain.h"
 
 // ---- Numbers that look random (splitmix64) ----
 
@@ -86,7 +80,7 @@ static inline void add_arrival(u32 at, u32 server, u32 work)
 // ---- The bytes ----
 
 // The places of the header's words.
-enum { FRAME = 0, HORIZON = 4, SERVERS = 8, SERVER_OFFSET = 12, ARRIVALS = 16, ARRIVAL_OFFSET = 20, HEADER = 24 };
+enum { FRAME = 0, HORIZON = 4, SERVERS = 8, SERVER_OFFSET = 12, ARRIVALS = 16, ARRIVAL_OFFSET = 20 };
 
 static u8 bytes[150000];
 static u32 length, server_offset, arrival_offset;
@@ -99,28 +93,28 @@ static inline void set_word(u32 place, u32 word)
 
 static inline u32 word_at(u32 place)
 {
-    return bytes[place] | (u32)bytes[place + 1] << 8 | (u32)bytes[place + 2] << 16 | (u32)bytes[place + 3] << 24;
+    return word_from(bytes + place);
 }
 
 static inline void set_server(u32 s, u32 q, u32 t)
 {
-    set_word(server_offset + 8 * s, q);
-    set_word(server_offset + 8 * s + 4, t);
+    set_word(server_offset + SERVER_RECORD * s, q);
+    set_word(server_offset + SERVER_RECORD * s + 4, t);
 }
 
 static inline void set_arrival(u32 k, u32 at, u32 server, u32 work)
 {
-    set_word(arrival_offset + 12 * k, at);
-    set_word(arrival_offset + 12 * k + 4, server);
-    set_word(arrival_offset + 12 * k + 8, work);
+    set_word(arrival_offset + ARRIVAL_RECORD * k, at);
+    set_word(arrival_offset + ARRIVAL_RECORD * k + 4, server);
+    set_word(arrival_offset + ARRIVAL_RECORD * k + 8, work);
 }
 
 // The table and its arrivals as bytes, with so many bytes of no meaning before the servers, before the arrivals and behind all.
 static inline void encode(u32 gap, u32 second_gap, u32 tail)
 {
     server_offset = HEADER + gap;
-    arrival_offset = server_offset + 8 * server_count + second_gap;
-    length = arrival_offset + 12 * arrival_count + tail;
+    arrival_offset = server_offset + SERVER_RECORD * server_count + second_gap;
+    length = arrival_offset + ARRIVAL_RECORD * arrival_count + tail;
     for (u32 i = 0; i < length; i++)
         bytes[i] = (u8)number();
     set_word(FRAME, frame);
@@ -138,28 +132,14 @@ static inline void encode(u32 gap, u32 second_gap, u32 tail)
 // Writes the bytes to FOLDER/NAME. Answers whether all went well.
 static inline int save(const char *folder, const char *name)
 {
-    static char path[4096];
-    u32 at = 0;
-    for (; *folder; folder++)
-        if (at < sizeof path - 32)
-            path[at++] = *folder;
-    path[at++] = '/';
-    for (; *name; name++)
-        if (at < sizeof path - 1)
-            path[at++] = *name;
-    path[at] = 0;
+    return set_path(folder, name, "") && save_bytes(bytes, length);
+}
 
-    int file = open(path, WRITE_NEW, 0644);
-    if (file < 0)
-        return 0;
-    u32 done = 0;
-    while (done < length) {
-        long put = write(file, bytes + done, length - done);
-        if (put <= 0)
-            break;
-        done += (u32)put;
-    }
-    return close(file) == 0 && done == length;
+// Writes the table and its arrivals to FOLDER/NAME, with no gap.
+static inline int save_table(const char *folder, const char *name)
+{
+    encode(0, 0, 0);
+    return save(folder, name);
 }
 
 // ---- Tables ----
