@@ -55,10 +55,25 @@ static void short_jobs(void)
 }
 
 // Every server always has work, and every tick postpones: as many segments as ticks.
-static void always_busy(void)
+static void always_busy(u32 servers)
 {
-    equal_servers(SERVERS_IN_USE, 1, LONGEST);
+    equal_servers(servers, 1, LONGEST);
     jobs_from_the_beginning(SERVERS_IN_USE);
+}
+
+static void two_busy(void)
+{
+    always_busy(2);
+}
+
+static void nine_busy(void)
+{
+    always_busy(9);
+}
+
+static void all_busy(void)
+{
+    always_busy(SERVERS_IN_USE);
 }
 
 // As many segments as ticks here too, and nobody to choose from. One job is too short to fill the horizon.
@@ -132,7 +147,9 @@ static const struct {
     void (*make)(void);
 } files[] = {{"start", nothing},
              {"short-jobs", short_jobs},
-             {"segments", always_busy},
+             {"two", two_busy},
+             {"nine", nine_busy},
+             {"segments", all_busy},
              {"arrivals", overload},
              {"lone", one_alone}};
 

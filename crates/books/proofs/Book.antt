@@ -10,6 +10,7 @@ use Rattle.trace.specs.declared.Segment.{Segment}
 use Rattle.workfile.specs.Work.{Work}
 use Rattle.books.specs.declared.Current.{Current}
 use Rattle.books.specs.declared.Standing.{Standing}
+use Rattle.books.proofs.tree.Winners.{Tree}
 
 -- of segments: the lent list, the interruptions of each server, and the stretch that the run is in
 pub record SegmentBook : Type 0 where
@@ -19,7 +20,7 @@ pub record SegmentBook : Type 0 where
 
 -- of turns: the winner tree, the postponements of each server, and the segments
 pub record TurnBook : Type 0 where
-  pub keys : List ℕ
+  pub tree : Tree
   pub postponed : List ℕ
   pub segments : SegmentBook
 
@@ -37,8 +38,8 @@ pub record Book : Type 0 where
 abbrev pub segmentBook : List ℕ → List ℕ → Current → SegmentBook
 segmentBook list interrupted current = record { list = list; interrupted = interrupted; current = current }
 
-abbrev pub turnBook : List ℕ → List ℕ → SegmentBook → TurnBook
-turnBook keys postponed segments = record { keys = keys; postponed = postponed; segments = segments }
+abbrev pub turnBook : Tree → List ℕ → SegmentBook → TurnBook
+turnBook tree postponed segments = record { tree = tree; postponed = postponed; segments = segments }
 
 abbrev pub jobBook : List ℕ → List ℕ → List ℕ → JobBook
 jobBook job left finishes = record { job = job; left = left; finishes = finishes }
@@ -48,10 +49,10 @@ book turns jobs = record { turns = turns; jobs = jobs }
 
 -- with other segments, with another tree, or with other work of the current stretch's server
 abbrev pub withSegments : Book → SegmentBook → Book
-withSegments b segments = book (turnBook (b .turns .keys) (b .turns .postponed) segments) (b .jobs)
+withSegments b segments = book (turnBook (b .turns .tree) (b .turns .postponed) segments) (b .jobs)
 
-abbrev pub withKeys : Book → List ℕ → Book
-withKeys b keys = book (turnBook keys (b .turns .postponed) (b .turns .segments)) (b .jobs)
+abbrev pub withTree : Book → Tree → Book
+withTree b tree = book (turnBook tree (b .turns .postponed) (b .turns .segments)) (b .jobs)
 
 abbrev pub withWaits : SegmentBook → Length → SegmentBook
 withWaits b waits =

@@ -38,11 +38,12 @@ pub struct PlannedSpell {
     pub postponed: u64,
 }
 
-// What a spell leaves beside the books: the server, the stretch that the run is in then, and how long it took.
+// What a spell leaves beside the books: the server, the stretch that the run is in then, how long it took, and what the root of the tree holds.
 pub struct Gone {
     pub server: Server,
     pub current: Current,
     pub gone: Length,
+    pub root: u64,
 }
 
 // What a run leaves at the horizon beside its lists: how many segments there are, and two counts for each server.

@@ -1,4 +1,3 @@
-pub mod Climb
 pub mod OutcomeLaws
 pub mod OutcomeOnPaperLaws
 pub mod Promises

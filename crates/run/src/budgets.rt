@@ -8,7 +8,7 @@ ghost use Rattle.books.proofs.budgets.Budgets.{Able, Budgets, BudgetsFrom, Furt
 ghost use Rattle.books.proofs.budgets.BudgetLaws.{RisesBelow};
 ghost use Rattle.books.proofs.budgets.Skipped.{lastOf};
 ghost use Rattle.books.proofs.stretches.Turns.{Bounded};
-ghost use Rattle.books.proofs.tree.Winners.{Leaf};
+ghost use Rattle.books.proofs.tree.Winners.{Leaf, treeOf};
 ghost use Rattle.clock.specs.Clock.{lastTick, ticks};
 ghost use Rattle.sizes.specs.Sizes.{clockEnd};
 use crate::serving::less;
@@ -21,18 +21,18 @@ use clock::Moment;
 use server::Server;
 
 // For how many whole budgets server i goes on: none where its budget is not full, else as many as there is time and work to spare,
-// and as no other server wins before. The other half of the servers stands so many levels up in the tree.
-pub(crate) fn further(keys: &[u64; 128], levels: usize, i: usize, s: Server, spare: Length) -> u64
-    requires { ⌜ Leaf (now keys) i levels ⌝ }
+// and as no other server wins before.
+pub(crate) fn further(keys: &[u64; 128], leaves: usize, i: usize, s: Server, spare: Length) -> u64
+    requires { ⌜ Leaf (treeOf leaves (now keys)) i ⌝ }
     requires { ⌜ Able s ⌝ }
-    ensures { λ r. ⌜ Further (now (keys .entry)) i s (spare .ticks) r ⌝ }
+    ensures { λ r. ⌜ Further (treeOf leaves (now (keys .entry))) i s (spare .ticks) r ⌝ }
 {
     let budget = s.budget.ticks;
     let period = s.period.ticks;
     let own = s.deadline.tick * 64 + i as u64;
     // The least key of the half of the servers that i is not of. Asked first, as it nearly always ends as it did the time before: where
     // many are at work, that half mostly has an earlier key.
-    if keys[tree::other_half(i, levels)] <= own {
+    if keys[tree::other_half(leaves, i)] <= own {
         return 0;
     }
     if s.remaining.ticks < budget {
@@ -41,7 +41,7 @@ pub(crate) fn further(keys: &[u64; 128], levels: usize, i: usize, s: Server, spa
     if spare.ticks <= budget {
         return 0;
     }
-    let rival = tree::rival(keys, i);
+    let rival = tree::rival(keys, leaves, i);
     if rival <= own {
         return 0;
     }

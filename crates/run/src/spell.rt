@@ -7,6 +7,7 @@ ghost use Rattle.books.proofs.budgets.Budgets.{BudgetsFrom};
 ghost use Rattle.books.proofs.spell.Planned.{MayGo, MayPlan, Planned};
 ghost use Rattle.books.proofs.spell.SpellLeaves.{SpellLeaves, afterSpell};
 ghost use Rattle.books.proofs.stretches.Turns.{Bounded};
+ghost use Rattle.books.proofs.tree.Winners.{treeOf};
 ghost use Rattle.sizes.specs.Sizes.{clockEnd};
 use crate::budgets;
 use crate::serving;
@@ -19,14 +20,13 @@ use clock::Length;
 use clock::Moment;
 use server::Server;
 
-// Server i goes for a spell from t on, with `rest` of its job left, and `room` to go at most. The two halves of the servers stand so many
-// levels up in the tree.
+// Server i goes for a spell from t on, with `rest` of its job left, and `room` to go at most.
 pub(crate) fn go(
     list: &mut [u64],
     keys: &mut [u64; 128],
     postponed: &mut [u64; sizes::MOST_SERVERS],
     interrupted: &mut [u64; sizes::MOST_SERVERS],
-    levels: usize,
+    leaves: usize,
     c: Current,
     t: Moment,
     i: usize,
@@ -34,12 +34,12 @@ pub(crate) fn go(
     rest: Length,
     room: Length,
 ) -> Gone
-    requires { ⌜ MayGo levels (t .tick) i s (rest .ticks) (room .ticks) (turnBook (now keys) (now postponed) (segmentBook (now list) (now interrupted) c)) ⌝ }
-    ensures { λ r. ⌜ SpellLeaves (t .tick) i s (rest .ticks) (room .ticks) (turnBook (now (keys .entry)) (now (postponed .entry)) (segmentBook (now (list .entry)) (now (interrupted .entry)) c)) (turnBook (now (keys .exit)) (now (postponed .exit)) (segmentBook (now (list .exit)) (now (interrupted .exit)) (r .current))) r ⌝ }
+    requires { ⌜ MayGo (t .tick) i s (rest .ticks) (room .ticks) (turnBook (treeOf leaves (now keys)) (now postponed) (segmentBook (now list) (now interrupted) c)) ⌝ }
+    ensures { λ r. ⌜ SpellLeaves (t .tick) i s (rest .ticks) (room .ticks) (turnBook (treeOf leaves (now (keys .entry))) (now (postponed .entry)) (segmentBook (now (list .entry)) (now (interrupted .entry)) c)) (turnBook (treeOf leaves (now (keys .exit))) (now (postponed .exit)) (segmentBook (now (list .exit)) (now (interrupted .exit)) (r .current))) r ⌝ }
 {
-    let p = plan(keys, levels, i, s, rest, room);
+    let p = plan(keys, leaves, i, s, rest, room);
     let current = pass_through(list, interrupted, c, t, i, s.deadline, p);
-    tree::set_key(keys, i, p.key);
+    let root = tree::set_winner(keys, leaves, i, p.key);
     postponed[i] += p.postponed;
     let server = p.last;
     let gone = p.gone;
@@ -47,28 +47,42 @@ pub(crate) fn go(
         server,
         current,
         gone,
+        root,
     }
 }
 
 // What the spell will be: its ticks and budgets, and the server, its key and its counts after them.
 fn plan(
     keys: &[u64; 128],
-    levels: usize,
+    leaves: usize,
     i: usize,
     s: Server,
     rest: Length,
     room: Length,
 ) -> PlannedSpell
-    requires { ⌜ MayPlan (now keys) levels i s (rest .ticks) (room .ticks) ⌝ }
-    ensures { λ r. ⌜ Planned (now (keys .entry)) i s (rest .ticks) (room .ticks) r ⌝ }
+    requires { ⌜ MayPlan (treeOf leaves (now keys)) i s (rest .ticks) (room .ticks) ⌝ }
+    ensures { λ r. ⌜ Planned (treeOf leaves (now (keys .entry))) i s (rest .ticks) (room .ticks) r ⌝ }
 {
     let ticks = serving::shortest(s.remaining, rest, room);
     let after = serving::serve(s, ticks);
     let spare = serving::shorter(serving::less(rest, ticks), serving::less(room, ticks));
-    let budgets = budgets::further(keys, levels, i, after, spare);
+    let budgets = budgets::further(keys, leaves, i, after, spare);
+    let spent = budgets::spent(ticks, s.remaining);
+    // Mostly there are none, and then there is nothing to multiply.
+    if budgets == 0 {
+        let key = serving::key_of(after, i);
+        return PlannedSpell {
+            ticks,
+            after,
+            budgets: 0,
+            last: after,
+            key,
+            gone: ticks,
+            postponed: spent,
+        };
+    }
     let last = budgets::budgets_on(after, budgets);
     let key = serving::key_of(last, i);
-    let spent = budgets::spent(ticks, s.remaining);
     let gone = Length {
         ticks: ticks.ticks + budgets * s.budget.ticks,
     };
@@ -103,6 +117,9 @@ fn pass_through(
     let waits = after.waiting;
     let mut current = stretches::turn_to(list, interrupted, c, t, i, deadline);
     current.waits = waits;
+    if budgets == 0 {
+        return current;
+    }
     budgets::pass(
         list,
         interrupted,

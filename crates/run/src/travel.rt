@@ -7,6 +7,7 @@ ghost use Rattle.books.proofs.Book.{book, jobBook, lentIn, segmentBook, standin
 ghost use Rattle.books.proofs.stretches.Segmented.{atRest};
 ghost use Rattle.books.proofs.travel.AtHorizon.{AtHorizon};
 ghost use Rattle.books.proofs.travel.Travels.{MayTravel, Travels};
+ghost use Rattle.books.proofs.tree.Winners.{treeOf};
 ghost use Rattle.clock.specs.Clock.{moment};
 ghost use Rattle.moments.specs.Moments.{atMoment};
 ghost use Rattle.workfile.specs.Work.{work};
@@ -30,7 +31,7 @@ pub(crate) fn travel(file: &[u8], list: &mut [u64], finishes: &mut [u32]) -> Tra
     let h = workfile::header_of(file);
     let arrivals = h.arrivals.count;
     let horizon = h.horizon;
-    let levels = tree::levels_of(h.servers.count);
+    let leaves = tree::leaves_of(h.servers.count);
     jobs::open_all(finishes, arrivals);
     // The job that each server serves, the job behind each, and what is left of the one that is served.
     let mut job = [arrivals; sizes::MOST_SERVERS];
@@ -46,7 +47,7 @@ pub(crate) fn travel(file: &[u8], list: &mut [u64], finishes: &mut [u32]) -> Tra
         list,
         finishes,
         horizon,
-        levels,
+        leaves,
         from_start(file),
         &mut keys,
         &mut postponed,
@@ -86,7 +87,7 @@ fn to_moment(
     list: &mut [u64],
     finishes: &mut [u32],
     until: Moment,
-    levels: usize,
+    leaves: usize,
     from: Standing,
     keys: &mut [u64; 128],
     postponed: &mut [u64; sizes::MOST_SERVERS],
@@ -95,9 +96,9 @@ fn to_moment(
     left: &mut [u64; sizes::MOST_SERVERS],
     behind: &[usize; sizes::MOST_ARRIVALS],
 ) -> Standing
-    requires { ⌜ MayTravel (now file) (now behind) (until .tick) levels (lentIn (work (now file)) (from .moment .tick) (from .current) (now list) (now finishes)) (standingAt from) (book (turnBook (now keys) (now postponed) (segmentBook (now list) (now interrupted) (from .current))) (jobBook (now job) (now left) (now finishes))) ⌝ }
+    requires { ⌜ MayTravel (now file) (now behind) (until .tick) (lentIn (work (now file)) (from .moment .tick) (from .current) (now list) (now finishes)) (standingAt from) (book (turnBook (treeOf leaves (now keys)) (now postponed) (segmentBook (now list) (now interrupted) (from .current))) (jobBook (now job) (now left) (now finishes))) ⌝ }
     ensures { λ r. ⌜ r .moment ≡ until ⌝ }
-    ensures { λ r. ⌜ Travels (lentIn (work (now (file .entry))) (from .moment .tick) (from .current) (now (list .entry)) (now (finishes .entry))) (standingAt r) (book (turnBook (now (keys .exit)) (now (postponed .exit)) (segmentBook (now (list .exit)) (now (interrupted .exit)) (r .current))) (jobBook (now (job .exit)) (now (left .exit)) (now (finishes .exit)))) ⌝ }
+    ensures { λ r. ⌜ Travels (lentIn (work (now (file .entry))) (from .moment .tick) (from .current) (now (list .entry)) (now (finishes .entry))) (standingAt r) (book (turnBook (treeOf leaves (now (keys .exit))) (now (postponed .exit)) (segmentBook (now (list .exit)) (now (interrupted .exit)) (r .current))) (jobBook (now (job .exit)) (now (left .exit)) (now (finishes .exit)))) ⌝ }
 {
     let mut d = from.dispatcher;
     let mut c = from.current;
@@ -105,29 +106,31 @@ fn to_moment(
     let mut t = from.moment;
     let mut j = from.taken;
     let mut next = reading::next_stop(file, until, j);
+    // What the root of the tree holds: kept here, since it would take time to read what has just been stored there.
+    let mut root = keys[1];
     while t.tick < until.tick {
         while next.tick <= t.tick {
             let a = reading::arrival_of(file, j);
             let i = a.server;
-            let taken = taking::take(keys, i, d.servers[i], d.clock, a.cost);
+            let taken = taking::take(keys, leaves, i, d.servers[i], d.clock, a.cost);
             d.servers[i] = taken;
             j += 1;
             next = reading::next_stop(file, until, j);
+            root = keys[1];
         }
-        let key = keys[1];
-        if key == clock::LAST_TICK {
+        if root == clock::LAST_TICK {
             c = stretches::idle(list, interrupted, c, t);
             t = next;
             d.clock = t;
         } else {
-            let i = (key % 64) as usize;
+            let i = (root % 64) as usize;
             let rest = jobs::left_of(file, job, left, i);
             let g = spell::go(
                 list,
                 keys,
                 postponed,
                 interrupted,
-                levels,
+                leaves,
                 c,
                 t,
                 i,
@@ -138,6 +141,7 @@ fn to_moment(
             let gone = g.gone;
             let server = g.server;
             c = g.current;
+            root = g.root;
             d.servers[i] = server;
             t = clock::later(t, gone);
             d.clock = t;

@@ -25,7 +25,7 @@ use Rattle.books.proofs.travel.Stands.{NoneBefore}
 -- a book with other postponements, other segments, and other work left
 abbrev pub bookWith : Book → List ℕ → SegmentBook → List ℕ → Book
 bookWith b postponed segments left =
-    book (turnBook (b .turns .keys) postponed segments) (jobBook (b .jobs .job) left (b .jobs .finishes))
+    book (turnBook (b .turns .tree) postponed segments) (jobBook (b .jobs .job) left (b .jobs .finishes))
 
 -- the book after n whole budgets of server i from t on
 abbrev pub budgetBook : Book → ℕ → ℕ → Server → ℕ → Book

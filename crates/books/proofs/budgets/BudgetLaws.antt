@@ -1,6 +1,5 @@
 -- Laws of whole budgets in one go: how many there may be, and that no number on the way is too large.
 use Prim.Native.Nat.{ℕ, zero, suc, _+_, _-_, _*_, _/_, _≤_, _<_}
-use mathlib.Core.List.{List}
 use mathlib.Core.Path.{_≡_, sym, _∙_, ap}
 use native.Mathlib.Nat.{div-mul-le-self, div-le-self, le-mul-of-pos-right, mul-le-mul-right, mul-le-mul}
 use native.Mathlib.Omega.{arith}
@@ -12,7 +11,7 @@ use Rattle.sizes.specs.Sizes.{clockEnd, mostFrame}
 use Rattle.books.proofs.Book.{SegmentBook}
 use Rattle.books.proofs.budgets.Budgets.{budgetsOn, turnedOn, Able, BudgetsFrom, Further}
 use Rattle.books.proofs.stretches.Turns.{Bounded, turned-bounded}
-use Rattle.books.proofs.tree.Winners.{Rival}
+use Rattle.books.proofs.tree.Winners.{Tree, Rival}
 
 -- the first r of the numbers that rise from `from` on by `step` are below a bound
 abbrev pub RisesBelow : ℕ → ℕ → ℕ → ℕ → Type 0
@@ -31,8 +30,8 @@ pub fits-in : (budget spare : ℕ) → 1 ≤ spare → (spare - 1) / budget * bu
 fits-in budget spare l = omega (arith, div-mul-le-self (spare - 1) budget)
 
 -- How many budgets a server may go on for: none,
-pub further-none : (keys : List ℕ) (i : ℕ) (s : Server) (spare : ℕ) → Further keys i s spare 0
-further-none keys i s spare =
+pub further-none : (tree : Tree) (i : ℕ) (s : Server) (spare : ℕ) → Further tree i s spare 0
+further-none tree i s spare =
     record {
       full = λ l. let no : ⊥ = omega arith in absurd no;
       fits = λ l. let no : ⊥ = omega arith in absurd no;
@@ -40,11 +39,11 @@ further-none keys i s spare =
     }
 
 -- or, with a full budget, as many as fit and as win over the least of the other keys
-pub further-some : (keys : List ℕ) (i : ℕ) (s : Server) (spare : ℕ) {rival wins fits r : ℕ} → Able s
-    → s .budget .ticks ≤ s .remaining .ticks → Rival keys i rival
+pub further-some : (tree : Tree) (i : ℕ) (s : Server) (spare : ℕ) {rival wins fits r : ℕ} → Able s
+    → s .budget .ticks ≤ s .remaining .ticks → Rival tree i rival
     → RisesBelow (s .deadline .tick * 64 + i) (64 * s .period .ticks) rival wins → fits * s .budget .ticks < spare → r ≤ wins → r ≤ fits
-    → Further keys i s spare r
-further-some keys i s spare {rival} {wins} {fits} {r} able full least below enough by-wins by-fits =
+    → Further tree i s spare r
+further-some tree i s spare {rival} {wins} {fits} {r} able full least below enough by-wins by-fits =
     record {
       full = λ l. omega (arith, able .remaining);
       fits = λ l. omega (arith, mul-le-mul-right (s .budget .ticks) by-fits);

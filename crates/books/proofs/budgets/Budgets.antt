@@ -20,7 +20,7 @@ use Rattle.sizes.specs.Sizes.{clockEnd, mostFrame, mostServers}
 use Rattle.books.proofs.Book.{SegmentBook, withWaits}
 use Rattle.books.proofs.tree.Keys.{keyOf, key-works}
 use Rattle.books.proofs.stretches.Turns.{turned}
-use Rattle.books.proofs.tree.Winners.{keyAt}
+use Rattle.books.proofs.tree.Winners.{Tree, keyAt}
 
 -- a server with a full budget, n budgets later
 unfoldable pub budgetsOn : Server → ℕ → Server
@@ -59,13 +59,13 @@ pub record BudgetsFrom (t i : ℕ) (s : Server) (n : ℕ) : Type 0 where
   pub works : n * s .budget .ticks ≤ s .waiting .ticks
 
 -- How many budgets b a server may go on for, with so much to spare of its work and of the time: none of the others wins before.
-pub record Further (keys : List ℕ) (i : ℕ) (s : Server) (spare b : ℕ) : Type 0 where
+pub record Further (tree : Tree) (i : ℕ) (s : Server) (spare b : ℕ) : Type 0 where
   pub full : 0 < b → s .remaining .ticks ≡ s .budget .ticks
   pub fits : 0 < b → b * s .budget .ticks < spare
-  pub wins : (n j : ℕ) → n < b → j < 64 → (j ≡ i → ⊥) → (s .deadline .tick + n * s .period .ticks) * 64 + i < keyAt keys j
+  pub wins : (n j : ℕ) → n < b → j < tree .leaves → (j ≡ i → ⊥) → (s .deadline .tick + n * s .period .ticks) * 64 + i < keyAt tree j
 
 -- One budget more.
-budgets-none : (s : Server) → budgetsOn s 0 ≡ s
+pub budgets-none : (s : Server) → budgetsOn s 0 ≡ s
 unfolding budgetsOn
 budgets-none s =
     ap₂
@@ -153,12 +153,13 @@ module _ (d : Dispatcher) (i : ℕ) (here : i < length (d .servers)) where
       clock-more = omega arith
 
 -- it is still the one that the rules pick, while its key is less than every other
-pub wins-picked : (keys : List ℕ) (d : Dispatcher) (i : ℕ) (here : i < length (d .servers)) (among : i < d .count) → d .count ≤ 64
-    → ((j : ℕ) → j < 64 → (j ≡ i → ⊥) → keyAt keys j ≡ keyOf (serverAt d j) j) → (n : ℕ)
+pub wins-picked : (tree : Tree) (d : Dispatcher) (i : ℕ) (here : i < length (d .servers)) (among : i < d .count) → d .count ≤ 64
+    → d .count ≤ tree .leaves
+    → ((j : ℕ) → j < tree .leaves → (j ≡ i → ⊥) → keyAt tree j ≡ keyOf (serverAt d j) j) → (n : ℕ)
     → n * serverAt d i .budget .ticks < serverAt d i .waiting .ticks
-    → ((j : ℕ) → j < 64 → (j ≡ i → ⊥) → (serverAt d i .deadline .tick + n * serverAt d i .period .ticks) * 64 + i < keyAt keys j)
+    → ((j : ℕ) → j < tree .leaves → (j ≡ i → ⊥) → (serverAt d i .deadline .tick + n * serverAt d i .period .ticks) * 64 + i < keyAt tree j)
     → Earliest (ranBudgets d i n) (d .count) i
-wins-picked keys d i here among few keyed n works wins =
+wins-picked tree d i here among few enough keyed n works wins =
     record {
       among = among;
       works = subst⁻¹ (λ (s : Server). idle s ≡ false) (on-own d i here n) (still-works (serverAt d i) n works);

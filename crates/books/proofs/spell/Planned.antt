@@ -3,7 +3,6 @@ use Prim.Native.Nat.{ℕ, _+_, _-_, _*_, _≤_, _<_}
 use lib.Dec.{eqb}
 use lib.ListN.{getD}
 use mathlib.Core.Bool.{cond}
-use mathlib.Core.List.{List}
 use mathlib.Core.Path.{_≡_}
 use Rattle.clock.specs.Clock.{lastTick}
 use Rattle.moments.proofs.OneGo.{servedFor}
@@ -14,11 +13,11 @@ use Rattle.books.proofs.Book.{TurnBook}
 use Rattle.books.proofs.budgets.Budgets.{Able, budgetsOn, Further}
 use Rattle.books.proofs.stretches.Turns.{Bounded}
 use Rattle.books.proofs.tree.Keys.{keyOf}
-use Rattle.books.proofs.tree.Winners.{Leaf}
+use Rattle.books.proofs.tree.Winners.{Tree, Leaf}
 
 -- what it may rely on when it is planned: the server has work, budget and time, and no number is too large
-pub record MayPlan (keys : List ℕ) (levels i : ℕ) (s : Server) (rest room : ℕ) : Type 0 where
-  pub leaf : Leaf keys i levels
+pub record MayPlan (tree : Tree) (i : ℕ) (s : Server) (rest room : ℕ) : Type 0 where
+  pub leaf : Leaf tree i
   pub able : Able s
   pub early : s .deadline .tick ≤ mostFrame * clockEnd
   pub some-work : 0 < rest
@@ -34,13 +33,13 @@ pub record MayServe (s : Server) (k : ℕ) : Type 0 where
   pub deadline : s .deadline .tick + s .period .ticks ≤ lastTick
 
 -- and when it goes, from t on
-pub record MayGo (levels t i : ℕ) (s : Server) (rest room : ℕ) (b : TurnBook) : Type 0 where
-  pub plans : MayPlan (b .keys) levels i s rest room
+pub record MayGo (t i : ℕ) (s : Server) (rest room : ℕ) (b : TurnBook) : Type 0 where
+  pub plans : MayPlan (b .tree) i s rest room
   pub in-time : t + room ≤ clockEnd
   pub bounded : Bounded clockEnd t (b .segments)
   pub few : getD (b .postponed) i 0 ≤ clockEnd
 
-pub record Planned (keys : List ℕ) (i : ℕ) (s : Server) (rest room : ℕ) (p : PlannedSpell) : Type 0 where
+pub record Planned (tree : Tree) (i : ℕ) (s : Server) (rest room : ℕ) (p : PlannedSpell) : Type 0 where
   -- at least one tick, within its job, its budget and the time
   pub some : 0 < p .ticks .ticks
   pub inside : p .ticks .ticks ≤ rest
@@ -51,7 +50,7 @@ pub record Planned (keys : List ℕ) (i : ℕ) (s : Server) (rest room : ℕ) (p
   pub spare : ℕ
   pub of-job : spare ≤ rest - p .ticks .ticks
   pub of-time : p .ticks .ticks + spare ≤ room
-  pub further : Further keys i (p .after) spare (p .budgets)
+  pub further : Further tree i (p .after) spare (p .budgets)
   pub last-is : p .last ≡ budgetsOn (p .after) (p .budgets)
   pub key-is : p .key ≡ keyOf (p .last) i
   pub gone-is : p .gone .ticks ≡ p .ticks .ticks + p .budgets * s .budget .ticks

@@ -2,7 +2,6 @@
 use Prim.Native.Nat.{ℕ, zero, suc, _+_, _-_, _*_, _≤_, _<_, min}
 use lib.Dec.{eqb}
 use mathlib.Core.Bool.{Bool, true, false, cond}
-use mathlib.Core.List.{List}
 use mathlib.Core.Path.{_≡_, refl, sym, _∙_, ap, subst, subst⁻¹, subst₂}
 use native.Mathlib.Decide.{decLt}
 use native.Mathlib.Nat.{le-mul-of-pos-right, mul-le-mul, mul-le-mul-left}
@@ -21,6 +20,7 @@ use Rattle.books.proofs.budgets.Budgets.{Able, Budgets, BudgetsFrom, bu
 use Rattle.books.proofs.tree.Keys.{keyOf}
 use Rattle.books.specs.declared.PlannedSpell.{PlannedSpell}
 use Rattle.books.proofs.spell.Planned.{MayPlan, MayGo, Planned}
+use Rattle.books.proofs.tree.Winners.{Tree}
 
 -- A server within its ranges before the end of the clock.
 module _ {t : Moment} {s : Server} (ranged : Ranged t s) (before : t .tick < clockEnd) where
@@ -74,7 +74,7 @@ left-works : (ticks : ℕ) {spare rest waiting n : ℕ} → ticks + spare ≤ re
 left-works ticks within work few = omega arith
 
 -- The ticks of a spell, the server after them, and what is left of job and time.
-module _ {keys : List ℕ} {levels i : ℕ} {s : Server} {rest room ticks spare : ℕ} {after : Server} (may : MayPlan keys levels i s rest room)
+module _ {tree : Tree} {i : ℕ} {s : Server} {rest room ticks spare : ℕ} {after : Server} (may : MayPlan tree i s rest room)
     (ticks-is : ticks ≡ min (min (s .remaining .ticks) rest) room) (after-is : after ≡ servedFor s ticks)
     (spare-is : spare ≡ min (rest - ticks) (room - ticks)) where
   pub after-able : Able after
@@ -90,7 +90,7 @@ module _ {keys : List ℕ} {levels i : ℕ} {s : Server} {rest room ticks spare 
   spare-job = omega arith
 
   -- and n whole budgets
-  module _ {n : ℕ} (further : Further keys i after spare n) where
+  module _ {n : ℕ} (further : Further tree i after spare n) where
     further-spare : n * s .budget .ticks ≤ spare
     further-spare = go n (λ l. omega (arith, further .fits l, ap (λ (q : ℕ). n * q) after-budget))
       where
@@ -112,24 +112,24 @@ module _ {keys : List ℕ} {levels i : ℕ} {s : Server} {rest room ticks spare 
 
     pub last-key : budgetsOn after n .deadline .tick * 64 + i ≤ lastTick
     unfolding budgetsOn
-    last-key = omega (arith, after-able .deadline, periods-few after n after-able further-few, may .leaf .place)
+    last-key = omega (arith, after-able .deadline, periods-few after n after-able further-few, may .leaf .place, may .leaf .winners .few)
 
     pub gone-few : ticks + n * s .budget .ticks ≤ clockEnd
     gone-few = omega (arith, further-spare, may .time)
 
-    pub planned : {last : Server} {key spent : ℕ} → last ≡ budgetsOn after n → key ≡ keyOf last i
-        → spent ≡ cond (eqb ticks (s .remaining .ticks)) 1 0
-        → Planned keys i s rest room
+    pub planned : {last : Server} {key gone postponed : ℕ} → last ≡ budgetsOn after n → key ≡ keyOf last i
+        → gone ≡ ticks + n * s .budget .ticks → postponed ≡ cond (eqb ticks (s .remaining .ticks)) 1 0 + n
+        → Planned tree i s rest room
         (record {
           ticks = record { ticks = ticks };
           after = after;
           budgets = n;
           last = last;
           key = key;
-          gone = record { ticks = ticks + n * s .budget .ticks };
-          postponed = spent + n;
+          gone = record { ticks = gone };
+          postponed = postponed;
         })
-    planned {last} {key} {spent} last-is key-is spent-is =
+    planned {last} {key} {gone} {postponed} last-is key-is gone-is postponed-is =
         record {
           some = omega (arith, may .some-work, may .charged, may .some-time);
           inside = omega arith;
@@ -142,17 +142,17 @@ module _ {keys : List ℕ} {levels i : ℕ} {s : Server} {rest room ticks spare 
           further = further;
           last-is = last-is;
           key-is = key-is;
-          gone-is = refl;
+          gone-is = gone-is;
           gone-rest = omega (arith, further-spare);
           gone-room = omega (arith, further-spare);
-          postponed-is = ap (λ (m : ℕ). m + n) spent-is;
+          postponed-is = postponed-is;
           able = after-able;
           works = further-works;
-          gone-after = ap (λ (q : ℕ). ticks + n * q) after-budget;
+          gone-after = ap (λ (q : ℕ). ticks + n * q) after-budget ∙ sym gone-is;
         }
 
 -- a spell postpones its server at most once more than it has budgets, and each budget takes a tick at least
-pub planned-few : {keys : List ℕ} {i : ℕ} {s : Server} {rest room : ℕ} {p : PlannedSpell} → Planned keys i s rest room p
+pub planned-few : {tree : Tree} {i : ℕ} {s : Server} {rest room : ℕ} {p : PlannedSpell} → Planned tree i s rest room p
     → 1 ≤ s .budget .ticks → p .postponed ≤ room + 1
 planned-few {s = s} {p = p} plan one =
     omega (
@@ -165,11 +165,11 @@ planned-few {s = s} {p = p} plan one =
     )
 
 -- there is work and time for its budgets, which begin behind its ticks
-pub planned-budgets : {keys : List ℕ} {levels t i : ℕ} {s : Server} {rest room : ℕ} {b : TurnBook} {p : PlannedSpell}
-    → MayGo levels t i s rest room b → Planned keys i s rest room p → BudgetsFrom (t + p .ticks .ticks) i (p .after) (p .budgets)
+pub planned-budgets : {tree : Tree} {t i : ℕ} {s : Server} {rest room : ℕ} {b : TurnBook} {p : PlannedSpell}
+    → MayGo t i s rest room b → Planned tree i s rest room p → BudgetsFrom (t + p .ticks .ticks) i (p .after) (p .budgets)
 planned-budgets may plan =
     record {
-      place = may .plans .leaf .place;
+      place = omega (arith, may .plans .leaf .place, may .plans .leaf .winners .few);
       able = plan .able;
       time = omega (arith, plan .gone-after, plan .gone-room, may .in-time);
       works = plan .works;

@@ -1,5 +1,5 @@
 -- A spell as it was planned keeps what holds between two events.
-use Prim.Native.Nat.{ℕ, zero, suc, _+_, _-_, _*_, _%_, _≤_, _<_}
+use Prim.Native.Nat.{ℕ, zero, suc, _+_, _-_, _*_, _≤_, _<_}
 use lib.Dec.{eqb}
 use lib.ListN.{length, getD, set}
 use lib.Seq.{getD-set-same, getD-set-other, set-set}
@@ -8,7 +8,7 @@ use mathlib.Core.List.{List}
 use mathlib.Core.Path.{_≡_, refl, sym, _∙_, ap, ap₂, subst, subst⁻¹, subst₂}
 use native.Mathlib.Nat.{mul-le-mul-right}
 use native.Mathlib.Omega.{arith}
-use Rattle.clock.specs.Clock.{lastTick, moment}
+use Rattle.clock.specs.Clock.{moment}
 use Rattle.clock.specs.declared.Length.{Length}
 use Rattle.dispatcher.specs.Moves.{standing}
 use Rattle.dispatcher.specs.Pick.{serverAt, Earliest}
@@ -29,25 +29,20 @@ use Rattle.books.proofs.jobs.JobBooks.{Jobs}
 use Rattle.books.proofs.jobs.Jobs.{NextJob, job-waiting}
 use Rattle.books.proofs.spell.Planned.{Planned}
 use Rattle.books.proofs.spell.SpellLeaves.{SpellLeaves, afterTicks}
-use Rattle.books.proofs.travel.BetweenEvents.{Ahead, clock-now, now-within, earliest}
+use Rattle.books.proofs.travel.BetweenEvents.{Ahead, clock-now, now-within}
 use Rattle.books.proofs.travel.EventBooks.{kept-ran, ran-jobs, ran-jobs-ended}
-use Rattle.books.proofs.travel.Kept.{Kept, kept-keys}
+use Rattle.books.proofs.travel.Kept.{Kept, kept-tree}
 use Rattle.books.proofs.travel.Stands.{NoneBefore, stands-within}
 use Rattle.books.proofs.travel.Travels.{Travels}
-use Rattle.books.proofs.tree.Keys.{keyOf, Keyed, keyed-set}
+use Rattle.books.proofs.tree.Keys.{keyOf, Keyed, holds-set}
 use Rattle.books.proofs.tree.Winners.{Set}
 
--- the server that the root of the tree names
-abbrev pub pickedIn : Book → ℕ
-pickedIn b = getD (b .turns .keys) 1 0 % 64
-
--- The picked server's spell, once its job is opened, up to a moment that comes no later than the next arrival.
-pub record Spelled (r : Run) (h : Here) (b : Book) (room : ℕ) (turns : TurnBook) (g : Gone) : Type 0 where
-  pub works : getD (b .turns .keys) 1 0 ≡ lastTick → ⊥
-  pub some : 0 < getD (b .jobs .left) (pickedIn b) 0
+-- The spell of the picked server i, once its job is opened, up to a moment that comes no later than the next arrival.
+pub record Spelled (r : Run) (h : Here) (b : Book) (i room : ℕ) (turns : TurnBook) (g : Gone) : Type 0 where
+  pub pick : Earliest (h .dispatcher) (h .dispatcher .count) i
+  pub some : 0 < getD (b .jobs .left) i 0
   pub ahead : Ahead (r .work) h (h .t + room)
-  pub leaves :
-      SpellLeaves (h .t) (pickedIn b) (serverAt (h .dispatcher) (pickedIn b)) (getD (b .jobs .left) (pickedIn b) 0) room (b .turns) turns g
+  pub leaves : SpellLeaves (h .t) i (serverAt (h .dispatcher) i) (getD (b .jobs .left) i 0) room (b .turns) turns g
 
 -- where the run stands when it is over
 abbrev pub hereAfter : Here → ℕ → Gone → Here
@@ -55,11 +50,8 @@ hereAfter h i g =
     here (h .t + g .gone .ticks) (h .taken)
     (standing (h .dispatcher) (moment (h .t + g .gone .ticks)) (set (h .dispatcher .servers) i (g .server)))
 
-module _ {r : Run} {h : Here} {b : Book} (fit : Fit (r .work) (length (r .finishes))) (v : Travels r h b) {room : ℕ} {turns : TurnBook}
-    {g : Gone} (x : Spelled r h b room turns g) where
-  abbrev i : ℕ
-  i = pickedIn b
-
+module _ {r : Run} {h : Here} {b : Book} (fit : Fit (r .work) (length (r .finishes))) (v : Travels r h b) {i room : ℕ} {turns : TurnBook}
+    {g : Gone} (x : Spelled r h b i room turns g) where
   abbrev d : Dispatcher
   d = h .dispatcher
 
@@ -75,11 +67,11 @@ module _ {r : Run} {h : Here} {b : Book} (fit : Fit (r .work) (length (r .finish
   abbrev n : ℕ
   n = spell .budgets
 
-  p : Planned (b .turns .keys) i s left room spell
+  p : Planned (b .turns .tree) i s left room spell
   p = x .leaves .planned
 
   pick : Earliest d (d .count) i
-  pick = earliest fit v (x .works)
+  pick = x .pick
 
   within : Within d
   within = now-within fit v
@@ -141,7 +133,7 @@ module _ {r : Run} {h : Here} {b : Book} (fit : Fit (r .work) (length (r .finish
     abbrev ranBook : JobBook → Book
     ranBook jobs =
         book
-        (turnBook (b .turns .keys) (set (b .turns .postponed) i postponedThen)
+        (turnBook (b .turns .tree) (set (b .turns .postponed) i postponedThen)
         (afterTicks (b .turns .segments) (h .t) i (s .deadline) (spell .after)))
         jobs
 
@@ -152,7 +144,7 @@ module _ {r : Run} {h : Here} {b : Book} (fit : Fit (r .work) (length (r .finish
           (λ (x : Server).
           Kept r (here then (h .taken) ran)
           (book
-          (turnBook (b .turns .keys) (set (b .turns .postponed) i postponedThen) (afterTicks (b .turns .segments) (h .t) i (s .deadline) x))
+          (turnBook (b .turns .tree) (set (b .turns .postponed) i postponedThen) (afterTicks (b .turns .segments) (h .t) i (s .deadline) x))
           jobs))
           after-is
           (kept-ran fit (v .kept) m to-horizon none-before i pick (x .some) inside budget stand)
@@ -164,8 +156,8 @@ module _ {r : Run} {h : Here} {b : Book} (fit : Fit (r .work) (length (r .finish
       abbrev its : Server
       its = serverAt ran i
 
-      further : Further (b .turns .keys) i its (p .spare) n
-      further = subst⁻¹ (λ (x : Server). Further (b .turns .keys) i x (p .spare) n) own-then (p .further)
+      further : Further (b .turns .tree) i its (p .spare) n
+      further = subst⁻¹ (λ (x : Server). Further (b .turns .tree) i x (p .spare) n) own-then (p .further)
 
       place-then : i < length (ran .servers)
       place-then = omega (arith, within-then .places, server)
@@ -190,7 +182,7 @@ module _ {r : Run} {h : Here} {b : Book} (fit : Fit (r .work) (length (r .finish
           go (suc q) e =
               on-all fit place-then server q e kept-then n (further .full)
               (λ o l.
-              wins-picked (b .turns .keys) ran i place-then (pick .among) (within .count)
+              wins-picked (b .turns .tree) ran i place-then (pick .among) (within .count) (v .keyed .enough)
               (λ a y other. v .keyed .keys a y ∙ ap (λ (z : Server). keyOf z a) (sym (other-then a other)))
               o
               (still o l)
@@ -217,8 +209,8 @@ module _ {r : Run} {h : Here} {b : Book} (fit : Fit (r .work) (length (r .finish
               set-set (d .servers) i (servedFor s (suc m)) (budgetsOn its n)
               ∙ ap (set (d .servers) i) (ap (λ (x : Server). budgetsOn x n) own-then ∙ sym (p .last-is) ∙ sym (x .leaves .server-is))
 
-      turns-are : budgetBook (ranBook jobs) then i its n .turns ≡ turnBook (b .turns .keys) (turns .postponed) (turns .segments)
-      turns-are = ap₂ (turnBook (b .turns .keys)) postponed-are segments-are
+      turns-are : budgetBook (ranBook jobs) then i its n .turns ≡ turnBook (b .turns .tree) (turns .postponed) (turns .segments)
+      turns-are = ap₂ (turnBook (b .turns .tree)) postponed-are segments-are
         where
           postponed-are : set (set (b .turns .postponed) i postponedThen) i (getD (set (b .turns .postponed) i postponedThen) i 0 + n)
               ≡ turns .postponed
@@ -241,10 +233,10 @@ module _ {r : Run} {h : Here} {b : Book} (fit : Fit (r .work) (length (r .finish
               ∙ sym (x .leaves .segments-is)
 
       -- the tree
-      keyed-over : Keyed (turns .keys) (hereAfter h i g .dispatcher)
+      keyed-over : Keyed (turns .tree) (hereAfter h i g .dispatcher)
       keyed-over =
-          keyed-set i (v .keyed) (λ a other. getD-set-other (d .servers) i a (g .server) vacant other)
-          (subst (Set (b .turns .keys) (turns .keys) i) key-is (x .leaves .set-now))
+          holds-set i (v .keyed) refl (λ a other. getD-set-other (d .servers) i a (g .server) vacant other)
+          (subst (Set (b .turns .tree) (turns .tree) i) key-is (x .leaves .set-now))
         where
           key-is : spell .key ≡ keyOf (serverAt (hereAfter h i g .dispatcher) i) i
           key-is =
@@ -257,7 +249,7 @@ module _ {r : Run} {h : Here} {b : Book} (fit : Fit (r .work) (length (r .finish
       went-so {after} jobs-are =
           record {
             kept =
-                kept-keys (turns .keys)
+                kept-tree (turns .tree)
                 (subst₂ (Kept r) over-is
                 (ap₂ book turns-are (ap (λ (y : Server). jobBook (jobs .job) (leftAfter y) (jobs .finishes)) own-then ∙ jobs-are))
                 on-then);

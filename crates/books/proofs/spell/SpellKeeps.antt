@@ -15,16 +15,13 @@ use Rattle.books.proofs.Book.{Run, Here, Book, book, TurnBook, JobBook,
 use Rattle.books.proofs.jobs.Jobs.{NextJob}
 use Rattle.books.proofs.jobs.Opened.{WentOn}
 use Rattle.books.proofs.spell.Planned.{Planned}
-use Rattle.books.proofs.spell.SpellBooks.{pickedIn, Spelled, hereAfter, gone-is, leftThen, its-left, spell-ran, spell-ended}
+use Rattle.books.proofs.spell.SpellBooks.{Spelled, hereAfter, gone-is, leftThen, its-left, spell-ran, spell-ended}
 use Rattle.books.proofs.travel.Travels.{Travels}
 
-module _ {r : Run} {h : Here} {b : Book} (fit : Fit (r .work) (length (r .finishes))) (v : Travels r h b) {room : ℕ} {turns : TurnBook}
-    {g : Gone} (x : Spelled r h b room turns g) (long : r .work .arrivals ≤ length (r .finishes)) {behind : List ℕ} {after : JobBook}
-    (follows : NextJob (r .work) (pickedIn b) (suc (getD (b .jobs .job) (pickedIn b) 0)) (getD behind (getD (b .jobs .job) (pickedIn b) 0) 0))
-    (went : WentOn (pickedIn b) (g .gone .ticks) (h .t + g .gone .ticks) behind (b .jobs) after) where
-  abbrev i : ℕ
-  i = pickedIn b
-
+module _ {r : Run} {h : Here} {b : Book} (fit : Fit (r .work) (length (r .finishes))) (v : Travels r h b) {i room : ℕ} {turns : TurnBook}
+    {g : Gone} (x : Spelled r h b i room turns g) (long : r .work .arrivals ≤ length (r .finishes)) {behind : List ℕ} {after : JobBook}
+    (follows : NextJob (r .work) i (suc (getD (b .jobs .job) i 0)) (getD behind (getD (b .jobs .job) i 0) 0))
+    (went : WentOn i (g .gone .ticks) (h .t + g .gone .ticks) behind (b .jobs) after) where
   abbrev left : ℕ
   left = getD (b .jobs .left) i 0
 
@@ -34,7 +31,7 @@ module _ {r : Run} {h : Here} {b : Book} (fit : Fit (r .work) (length (r .finish
   abbrev budgets : ℕ
   budgets = spell .budgets * spell .after .budget .ticks
 
-  p : Planned (b .turns .keys) i (serverAt (h .dispatcher) i) left room spell
+  p : Planned (b .turns .tree) i (serverAt (h .dispatcher) i) left room spell
   p = x .leaves .planned
 
   -- Its ticks are m + 1.

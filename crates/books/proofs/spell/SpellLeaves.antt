@@ -10,7 +10,7 @@ use Rattle.books.proofs.Book.{SegmentBook, TurnBook, withWaits}
 use Rattle.books.proofs.budgets.Budgets.{turnedOn}
 use Rattle.books.proofs.spell.Planned.{Planned}
 use Rattle.books.proofs.stretches.Turns.{turned}
-use Rattle.books.proofs.tree.Winners.{Set}
+use Rattle.books.proofs.tree.Winners.{rootOf, Set}
 
 -- the segments after its ticks, and after the budgets behind them
 abbrev pub afterTicks : SegmentBook → ℕ → ℕ → Moment → Server → SegmentBook
@@ -21,9 +21,10 @@ afterSpell b t i deadline p = turnedOn (afterTicks b t i deadline (p .after)) (t
 
 pub record SpellLeaves (t i : ℕ) (s : Server) (rest room : ℕ) (b b′ : TurnBook) (g : Gone) : Type 0 where
   pub spell : PlannedSpell
-  pub planned : Planned (b .keys) i s rest room spell
+  pub planned : Planned (b .tree) i s rest room spell
   pub server-is : g .server ≡ spell .last
   pub gone-is : g .gone ≡ spell .gone
-  pub set-now : Set (b .keys) (b′ .keys) i (spell .key)
+  pub root-is : g .root ≡ rootOf (b′ .tree)
+  pub set-now : Set (b .tree) (b′ .tree) i (spell .key)
   pub postponed-is : b′ .postponed ≡ set (b .postponed) i (getD (b .postponed) i 0 + spell .postponed)
   pub segments-is : b′ .segments ≡ afterSpell (b .segments) t i (s .deadline) spell

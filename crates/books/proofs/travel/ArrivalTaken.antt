@@ -2,8 +2,7 @@
 use Prim.Native.Nat.{ℕ, suc, _+_, _≤_, _<_}
 use lib.ListN.{set}
 use lib.Seq.{getD-set-same, getD-set-other}
-use mathlib.Core.List.{List}
-use mathlib.Core.Path.{_≡_, sym, _∙_, ap, subst⁻¹}
+use mathlib.Core.Path.{_≡_, refl, sym, _∙_, ap, subst⁻¹}
 use native.Mathlib.Decide.{decLt}
 use native.Mathlib.Nat.{le-refl, le-antisymm}
 use native.Mathlib.Omega.{arith}
@@ -18,18 +17,17 @@ use Rattle.server.specs.Moves.{arrived}
 use Rattle.server.specs.Ranges.{Ranged}
 use Rattle.server.specs.Server.{vacant}
 use Rattle.server.specs.declared.Server.{Server}
-use Rattle.sizes.specs.Sizes.{clockEnd, mostServers, mostWaiting}
+use Rattle.sizes.specs.Sizes.{clockEnd, mostWaiting}
 use Rattle.workfile.specs.Work.{Work}
 use Rattle.books.proofs.Accepted.{nextStop, stop-arrival, stop-behind, stop-until}
 use Rattle.books.proofs.Book.{Here, here}
-use Rattle.books.proofs.tree.Keys.{keyOf, Keyed, keyed-set}
+use Rattle.books.proofs.tree.Keys.{keyOf, Keyed, holds-set}
 use Rattle.books.proofs.travel.Stands.{Stands, stands-within, stands-count, room, accepted-as, stands-arrival}
-use Rattle.books.proofs.tree.Winners.{Winners, Set}
+use Rattle.books.proofs.tree.Winners.{Tree, rootOf, Leaf, Set}
 
 -- what a server may rely on that takes work at t: it has a place in the tree, its numbers are in their ranges, and it has room for the work
-pub record MayTake (keys : List ℕ) (i : ℕ) (s : Server) (t : Moment) (cost : Length) : Type 0 where
-  pub place : i < mostServers
-  pub winners : Winners keys
+pub record MayTake (tree : Tree) (i : ℕ) (s : Server) (t : Moment) (cost : Length) : Type 0 where
+  pub leaf : Leaf tree i
   pub ranged : Ranged t s
   pub time : t .tick ≤ clockEnd
   pub room : s .waiting .ticks + cost .ticks ≤ mostWaiting
@@ -38,10 +36,10 @@ pub record MayTake (keys : List ℕ) (i : ℕ) (s : Server) (t : Moment) (cost :
 -- stands behind the arrival, and a tree in which its key is set is that dispatcher's.
 pub record Takes (w : Work) (t j : ℕ) (d : Dispatcher) (a : Arrival) : Type 0 where
   pub place : a .server < 64
-  pub may : {keys : List ℕ} → Winners keys → MayTake keys (a .server) (serverAt d (a .server)) (d .clock) (a .cost)
+  pub may : {tree : Tree} → Keyed tree d → MayTake tree (a .server) (serverAt d (a .server)) (d .clock) (a .cost)
   pub stands : (s : Server) → s ≡ arrived (serverAt d (a .server)) (d .clock) (a .cost)
       → Stands w t (suc j) (standing d (d .clock) (set (d .servers) (a .server) s))
-  pub keyed : {keys after : List ℕ} (s : Server) → Keyed keys d → Set keys after (a .server) (keyOf s (a .server))
+  pub keyed : {tree after : Tree} (s : Server) → Keyed tree d → Set tree after (a .server) (keyOf s (a .server))
       → Keyed after (standing d (d .clock) (set (d .servers) (a .server) s))
 
 module _ {w : Work} {places t j : ℕ} {d : Dispatcher} (fit : Fit w places) (s : Stands w t j d) (end : t ≤ clockEnd)
@@ -56,10 +54,9 @@ module _ {w : Work} {places t j : ℕ} {d : Dispatcher} (fit : Fit w places) (s 
   takes =
       record {
         place = omega (arith, known, stands-within fit s end .count);
-        may = λ winners.
+        may = λ of-d.
             record {
-              place = omega (arith, known, stands-within fit s end .count);
-              winners = winners;
+              leaf = record { place = omega (arith, known, of-d .enough); winners = of-d .winners };
               ranged = stands-within fit s end .servers (a .server) known;
               time = stands-within fit s end .clock;
               room =
@@ -72,26 +69,27 @@ module _ {w : Work} {places t j : ℕ} {d : Dispatcher} (fit : Fit w places) (s 
             ∙ ap (λ (x : Arrival). standing d (d .clock) (set (d .servers) (x .server) (arrived (serverAt d (x .server)) (d .clock) (x .cost)))) read
             ∙ sym (accepted-as fit s end more now))
             (stands-arrival fit s end more now);
-        keyed = λ {keys} {after} server of-d key-set.
-            keyed-set (a .server) of-d (λ k n. getD-set-other (d .servers) (a .server) k server vacant n)
-            (subst⁻¹ (λ (x : Server). Set keys after (a .server) (keyOf x (a .server)))
+        keyed = λ {tree} {after} server of-d key-set.
+            holds-set (a .server) of-d refl (λ k n. getD-set-other (d .servers) (a .server) k server vacant n)
+            (subst⁻¹ (λ (x : Server). Set tree after (a .server) (keyOf x (a .server)))
             (getD-set-same (d .servers) (a .server) server vacant (omega (arith, known, stands-within fit s end .count, stands-within fit s end .places)))
             key-set);
       }
 
--- while they are taken: from where the run stood on to here, with how far it then goes at most
-pub record Taking (w : Work) (until : ℕ) (from h : Here) (keys : List ℕ) (next : ℕ) : Type 0 where
+-- while they are taken: from where the run stood on to here, with how far it then goes at most, and what the root of the tree holds
+pub record Taking (w : Work) (until : ℕ) (from h : Here) (tree : Tree) (next root : ℕ) : Type 0 where
   pub same-moment : h .t ≡ from .t
   pub stands : Stands w (h .t) (h .taken) (h .dispatcher)
-  pub keyed : Keyed keys (h .dispatcher)
+  pub keyed : Keyed tree (h .dispatcher)
   pub later : from .taken ≤ h .taken
   pub next-is : next ≡ nextStop w until (h .taken)
+  pub root-is : root ≡ rootOf tree
 
-pub next-by : {w : Work} {until : ℕ} {from h : Here} {keys : List ℕ} {next : ℕ} → Taking w until from h keys next → next ≤ until
+pub next-by : {w : Work} {until : ℕ} {from h : Here} {tree : Tree} {next root : ℕ} → Taking w until from h tree next root → next ≤ until
 next-by {w} {until} {h = h} g = omega (arith, g .next-is, stop-until w until (h .taken))
 
 -- Where the next stop is no later than now, and the run is to go on, there is an arrival of this moment, and that is taken.
-module _ {w : Work} {until : ℕ} {from h : Here} {keys : List ℕ} {next : ℕ} (g : Taking w until from h keys next) (ahead : h .t < until)
+module _ {w : Work} {until : ℕ} {from h : Here} {tree : Tree} {next root : ℕ} (g : Taking w until from h tree next root) (ahead : h .t < until)
     (due : next ≤ h .t) where
   pub due-here : h .taken < w .arrivals
   due-here = go (decLt (h .taken) (w .arrivals))
@@ -103,7 +101,14 @@ module _ {w : Work} {until : ℕ} {from h : Here} {keys : List ℕ} {next : ℕ}
   pub due-now : w .arrival (h .taken) .moment .tick ≤ h .t
   due-now = omega (arith, g .next-is, stop-arrival w until (h .taken) due-here)
 
-  pub taking-more : {after : List ℕ} {e : Dispatcher} {then : ℕ} → Stands w (h .t) (suc (h .taken)) e → Keyed after e
-      → then ≡ nextStop w until (suc (h .taken)) → Taking w until from (here (h .t) (suc (h .taken)) e) after then
-  taking-more stands keyed is =
-      record { same-moment = g .same-moment; stands = stands; keyed = keyed; later = omega (arith, g .later); next-is = is }
+  pub taking-more : {after : Tree} {e : Dispatcher} {then top : ℕ} → Stands w (h .t) (suc (h .taken)) e → Keyed after e
+      → then ≡ nextStop w until (suc (h .taken)) → top ≡ rootOf after → Taking w until from (here (h .t) (suc (h .taken)) e) after then top
+  taking-more stands keyed next-is root-is =
+      record {
+        same-moment = g .same-moment;
+        stands = stands;
+        keyed = keyed;
+        later = omega (arith, g .later);
+        next-is = next-is;
+        root-is = root-is;
+      }

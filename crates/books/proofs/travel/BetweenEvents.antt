@@ -2,7 +2,7 @@
 use Prim.Native.Nat.{ℕ, _+_, _%_, _≤_, _<_}
 use borrow.Author.Tests.{eqb-false}
 use lib.ListN.{length, getD}
-use mathlib.Core.Path.{_≡_, _∙_, ap}
+use mathlib.Core.Path.{_≡_, _∙_, ap, subst⁻¹}
 use native.Mathlib.Nat.{pos-of-ne-zero}
 use native.Mathlib.Omega.{arith}
 use Rattle.clock.specs.Clock.{lastTick}
@@ -26,6 +26,7 @@ use Rattle.books.proofs.stretches.Turns.{Bounded}
 use Rattle.books.proofs.travel.Stands.{NoneBefore, stands-within, stands-clock}
 use Rattle.books.proofs.travel.Travels.{Travels}
 use Rattle.books.proofs.tree.Keys.{root-picked}
+use Rattle.books.proofs.tree.Winners.{rootOf, Leaf}
 
 -- a moment ahead up to which no arrival comes
 pub record Ahead (w : Work) (h : Here) (stop : ℕ) : Type 0 where
@@ -82,22 +83,26 @@ module _ {r : Run} {h : Here} {b : Book} (fit : Fit (r .work) (length (r .finish
   list-long =
       let s = v .kept .segmented .segments in ap length (s .written-is) ∙ written-length (s .since) (r .list)
 
-  -- the server that is picked
-  module _ (works : getD (b .turns .keys) 1 0 ≡ lastTick → ⊥) where
-    abbrev i : ℕ
-    i = getD (b .turns .keys) 1 0 % 64
+  -- the root tells which server is picked
+  pub root-pick : (root : ℕ) → root ≡ rootOf (b .turns .tree) → (root ≡ lastTick → ⊥)
+      → Earliest (h .dispatcher) (h .dispatcher .count) (root % 64)
+  root-pick root is works =
+      subst⁻¹ (λ (k : ℕ). Earliest (h .dispatcher) (h .dispatcher .count) (k % 64)) is
+      (root-picked (v .keyed) now-within (λ e. works (is ∙ e)))
 
-    pub earliest : Earliest (h .dispatcher) (h .dispatcher .count) i
-    earliest = root-picked (v .keyed) now-within works
+  -- the server that is picked
+  module _ {i : ℕ} (pick : Earliest (h .dispatcher) (h .dispatcher .count) i) where
+    pub picked-leaf : Leaf (b .turns .tree) i
+    picked-leaf = record { place = omega (arith, pick .among, v .keyed .enough); winners = v .keyed .winners }
 
     pub picked-server : i < mostServers
-    picked-server = omega (arith, earliest .among, now-within .count)
+    picked-server = omega (arith, pick .among, now-within .count)
 
     pub picked-ranged : Ranged (h .dispatcher .clock) (serverAt (h .dispatcher) i)
-    picked-ranged = now-within .servers i (earliest .among)
+    picked-ranged = now-within .servers i (pick .among)
 
     pub picked-waits : 0 < serverAt (h .dispatcher) i .waiting .ticks
-    picked-waits = pos-of-ne-zero (eqb-false _ _ (earliest .works))
+    picked-waits = pos-of-ne-zero (eqb-false _ _ (pick .works))
 
     pub picked-charged : 0 < serverAt (h .dispatcher) i .remaining .ticks
-    picked-charged = busy-charged picked-ranged (eqb-false _ _ (earliest .works))
+    picked-charged = busy-charged picked-ranged (eqb-false _ _ (pick .works))

@@ -210,7 +210,7 @@ module _ {r : Run} {places t j : ℕ} {d : Dispatcher} {b : Book} (fit : Fit (r 
 
     -- all of it, with whatever book of jobs holds then
     pub kept-ran : {jobs : JobBook} → Jobs r (t + suc k) j jobs
-        → Kept r (here (t + suc k) j (ranFor d i (suc k))) (book (turnBook (b .turns .keys) counted ranSegments) jobs)
+        → Kept r (here (t + suc k) j (ranFor d i (suc k))) (book (turnBook (b .turns .tree) counted ranSegments) jobs)
     kept-ran jobs =
         record {
           stands = event-stands fit s k end later i p budget its-work;

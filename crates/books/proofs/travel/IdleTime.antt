@@ -1,6 +1,6 @@
 -- Idle time up to a moment that comes no later than the next arrival.
 use Prim.Native.Nat.{ℕ, zero, suc, _+_, _-_}
-use lib.ListN.{length, getD}
+use lib.ListN.{length}
 use mathlib.Core.Path.{_≡_, refl, sym, ap, ap₂, subst}
 use native.Mathlib.Omega.{arith}
 use Rattle.clock.specs.Clock.{lastTick, moment}
@@ -11,15 +11,17 @@ use Rattle.judgement.proofs.FitLaws.{Fit}
 use Rattle.sizes.specs.Sizes.{mostServers}
 use Rattle.books.proofs.Book.{Run, Here, here, Book, SegmentBook, withSegments}
 use Rattle.books.proofs.stretches.Turns.{turned}
+use Rattle.books.proofs.travel.ArrivalTaken.{Taking, next-by}
 use Rattle.books.proofs.travel.BetweenEvents.{Ahead, before-end, now-within}
 use Rattle.books.proofs.travel.EventBooks.{kept-idle}
 use Rattle.books.proofs.travel.Kept.{Kept}
 use Rattle.books.proofs.travel.Stands.{stands-clock}
-use Rattle.books.proofs.travel.Travels.{Travels}
+use Rattle.books.proofs.travel.Travels.{OnTheWay, Travels}
 use Rattle.books.proofs.tree.Keys.{root-none}
+use Rattle.books.proofs.tree.Winners.{rootOf}
 
 module _ {r : Run} {h : Here} {b : Book} (fit : Fit (r .work) (length (r .finishes))) (v : Travels r h b)
-    (none : getD (b .turns .keys) 1 0 ≡ lastTick) {stop : ℕ} (ahead : Ahead (r .work) h stop) {segments : SegmentBook}
+    (none : rootOf (b .turns .tree) ≡ lastTick) {stop : ℕ} (ahead : Ahead (r .work) h stop) {segments : SegmentBook}
     (segments-is : segments ≡ turned (b .turns .segments) (h .t) mostServers (moment 0)) where
   -- the dispatcher then
   abbrev then : Dispatcher
@@ -45,10 +47,15 @@ module _ {r : Run} {h : Here} {b : Book} (fit : Fit (r .work) (length (r .finish
           reached : h .dispatcher .clock .tick + suc k ≡ stop
           reached = omega (arith, now, ahead .some)
 
-  pub idled-on : Travels r (here stop (h .taken) then) (withSegments b segments)
-  idled-on =
+  idle-travels : Travels r (here stop (h .taken) then) (withSegments b segments)
+  idle-travels =
       record {
         kept = idle-kept;
         horizon = ahead .in-time;
-        keyed = record { winners = v .keyed .winners; keys = v .keyed .keys };
+        keyed = record { winners = v .keyed .winners; enough = v .keyed .enough; keys = v .keyed .keys };
       }
+
+  -- so the run is on its way as before
+  pub idled-on : {until root : ℕ} {from : Here} → Taking (r .work) until from h (b .turns .tree) stop root
+      → OnTheWay r (here stop (h .taken) then) (withSegments b segments) until stop root
+  idled-on g = record { travels = idle-travels; by = next-by g; next-is = g .next-is; root-is = g .root-is }

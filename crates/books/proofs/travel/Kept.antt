@@ -7,10 +7,11 @@ use Rattle.moments.proofs.PostponedLaws.{postponed-start}
 use Rattle.moments.specs.Moments.{postponedBy}
 use Rattle.sizes.specs.Sizes.{mostServers}
 use Rattle.workfile.specs.Work.{Work}
-use Rattle.books.proofs.Book.{Run, Here, Book, withKeys}
+use Rattle.books.proofs.Book.{Run, Here, Book, withTree}
 use Rattle.books.proofs.jobs.JobBooks.{Jobs}
 use Rattle.books.proofs.stretches.Segmented.{Segmented}
 use Rattle.books.proofs.travel.Stands.{Stands}
+use Rattle.books.proofs.tree.Winners.{Tree}
 
 -- the postponements of each server
 pub record Counts (w : Work) (t : ℕ) (postponed : List ℕ) : Type 0 where
@@ -30,5 +31,5 @@ pub record Kept (r : Run) (h : Here) (b : Book) : Type 0 where
   pub counts : Counts (r .work) (h .t) (b .turns .postponed)
   pub segmented : Segmented r (b .turns .segments) (h .t)
 
-pub kept-keys : {r : Run} {h : Here} {b : Book} (keys : List ℕ) → Kept r h b → Kept r h (withKeys b keys)
-kept-keys keys x = record { stands = x .stands; jobs = x .jobs; counts = x .counts; segmented = x .segmented }
+pub kept-tree : {r : Run} {h : Here} {b : Book} (tree : Tree) → Kept r h b → Kept r h (withTree b tree)
+kept-tree tree x = record { stands = x .stands; jobs = x .jobs; counts = x .counts; segmented = x .segmented }

@@ -3,18 +3,19 @@ use Prim.Native.Nat.{ℕ, _+_, _≤_, _<_}
 use borrow.Author.Tests.{eq-eqb}
 use lib.ListN.{length, getD, replicate, getD-replicate}
 use mathlib.Core.List.{List}
-use mathlib.Core.Path.{_≡_, sym, _∙_, ap}
+use mathlib.Core.Path.{_≡_, refl, sym, _∙_, ap}
 use native.Mathlib.Omega.{arith}
 use Rattle.clock.specs.Clock.{lastTick}
 use Rattle.dispatcher.specs.Pick.{serverAt}
+use Rattle.dispatcher.specs.Start.{atStart}
 use Rattle.finish.specs.Finish.{isOpen, finish, finishList}
 use Rattle.judgement.proofs.FitLaws.{Fit}
 use Rattle.moments.specs.Moments.{atMoment, history}
 use Rattle.sizes.specs.Sizes.{mostServers}
 use Rattle.workfile.specs.Work.{Work, work}
 use Rattle.books.specs.declared.Current.{Current}
-use Rattle.books.proofs.Accepted.{Accepted}
-use Rattle.books.proofs.Book.{Run, lentIn, Here, here, Book, book, turnBook, JobBook, jobBook, segmentBook, withSegments, withKeys}
+use Rattle.books.proofs.Accepted.{Accepted, nextStop}
+use Rattle.books.proofs.Book.{Run, lentIn, Here, here, Book, book, turnBook, JobBook, jobBook, segmentBook, withSegments, withTree}
 use Rattle.books.proofs.jobs.FinishList.{finishes-again}
 use Rattle.books.proofs.jobs.JobBooks.{Jobs, jobs-start, jobs-later}
 use Rattle.books.proofs.jobs.Jobs.{NextJob}
@@ -25,45 +26,53 @@ use Rattle.books.proofs.travel.ArrivalTaken.{Taking}
 use Rattle.books.proofs.travel.Kept.{Kept, counts-start}
 use Rattle.books.proofs.travel.Stands.{stands-start, start-waits-none}
 use Rattle.books.proofs.tree.Keys.{key-idle, Keyed}
-use Rattle.books.proofs.tree.Winners.{winners-same}
+use Rattle.books.proofs.tree.Winners.{Tree, treeOf, rootOf, Enough, winners-same}
 
 pub record Travels (r : Run) (h : Here) (b : Book) : Type 0 where
   pub kept : Kept r h b
   pub horizon : h .t ≤ r .work .horizon .tick
-  pub keyed : Keyed (b .turns .keys) (h .dispatcher)
+  pub keyed : Keyed (b .turns .tree) (h .dispatcher)
+
+-- It is on its way to `until`, and knows how far it goes at most without an arrival, and what the root of its tree holds.
+pub record OnTheWay (r : Run) (h : Here) (b : Book) (until next root : ℕ) : Type 0 where
+  pub travels : Travels r h b
+  pub by : h .t ≤ until
+  pub next-is : next ≡ nextStop (r .work) until (h .taken)
+  pub root-is : root ≡ rootOf (b .turns .tree)
 
 -- What a run may rely on that goes on to `until`: its file was accepted, the finish list is long enough, and the jobs are lined up.
-pub record MayTravel (file behind : List ℕ) (until levels : ℕ) (r : Run) (h : Here) (b : Book) : Type 0 where
+pub record MayTravel (file behind : List ℕ) (until : ℕ) (r : Run) (h : Here) (b : Book) : Type 0 where
   pub accepted : Accepted file
   pub long : work file .arrivals ≤ length (r .finishes)
   pub ahead : h .t ≤ until
   pub in-time : until ≤ work file .horizon .tick
-  pub halves : levels < 6
   pub follows : Follow (work file) behind
   pub travels : Travels r h b
 
 -- the book at the start
-abbrev pub startBook : List ℕ → List ℕ → List ℕ → Book
-startBook first list finishes =
-    book (turnBook (replicate 128 lastTick) (replicate mostServers 0) (segmentBook list (replicate mostServers 0) atRest))
+abbrev pub startBook : ℕ → List ℕ → List ℕ → List ℕ → Book
+startBook leaves first list finishes =
+    book (turnBook (treeOf leaves (replicate 128 lastTick)) (replicate mostServers 0) (segmentBook list (replicate mostServers 0) atRest))
     (jobBook first (replicate mostServers 0) finishes)
 
 -- at the start every server is idle
-start-keyed : (w : Work) → Keyed (replicate 128 lastTick) (atMoment w 0)
-start-keyed w =
+start-keyed : (w : Work) {leaves : ℕ} → Enough (w .table .count) leaves → Keyed (treeOf leaves (replicate 128 lastTick)) (atMoment w 0)
+unfolding atMoment atStart
+start-keyed w {leaves} e =
     record {
-      winners = winners-same lastTick;
+      winners = winners-same leaves lastTick (e .some) (e .few) (e .pairs);
+      enough = e .enough;
       keys = λ i b.
-          getD-replicate 128 (64 + i) lastTick 0 (omega arith)
+          getD-replicate 128 (leaves + i) lastTick 0 (omega (arith, e .few))
           ∙ sym (key-idle (serverAt (atMoment w 0) i) i (eq-eqb _ _ (start-waits-none w i)));
     }
 
 -- with the finish list as it is when every job is open, and the first job of each server
-pub travels-start : {w : Work} (list finishes : List ℕ) {first : List ℕ} → Fit w (length finishes)
+pub travels-start : {w : Work} {leaves : ℕ} (list finishes : List ℕ) {first : List ℕ} → Fit w (length finishes) → Enough (w .table .count) leaves
     → finishes ≡ finishList (w .arrivals) (λ k. isOpen) finishes → length first ≡ mostServers
     → ((i : ℕ) → i < mostServers → NextJob w i 0 (getD first i 0))
-    → Travels (lentIn w 0 atRest list finishes) (here 0 0 (atMoment w 0)) (startBook first list finishes)
-travels-start {w} list finishes fit opened long firsts =
+    → Travels (lentIn w 0 atRest list finishes) (here 0 0 (atMoment w 0)) (startBook leaves first list finishes)
+travels-start {w} list finishes fit leaves opened long firsts =
     record {
       kept =
           record {
@@ -73,12 +82,25 @@ travels-start {w} list finishes fit opened long firsts =
             segmented = segmented-start w list finishes;
           };
       horizon = omega arith;
-      keyed = start-keyed w;
+      keyed = start-keyed w leaves;
     }
 
--- the arrivals of a moment are taken
-pub travels-taking : {r : Run} {h k : Here} {b : Book} {keys : List ℕ} {until next : ℕ} → Travels r h b
-    → Taking (r .work) until h k keys next → Travels r k (withKeys b keys)
+-- the arrivals of a moment are taken: none at first
+pub taking-none : {r : Run} {h : Here} {b : Book} {until next root : ℕ} → OnTheWay r h b until next root
+    → Taking (r .work) until h h (b .turns .tree) next root
+taking-none x =
+    record {
+      same-moment = refl;
+      stands = x .travels .kept .stands;
+      keyed = x .travels .keyed;
+      later = omega arith;
+      next-is = x .next-is;
+      root-is = x .root-is;
+    }
+
+-- and then those that are
+pub travels-taking : {r : Run} {h k : Here} {b : Book} {tree : Tree} {until next root : ℕ} → Travels r h b
+    → Taking (r .work) until h k tree next root → Travels r k (withTree b tree)
 travels-taking v g =
     record {
       kept =

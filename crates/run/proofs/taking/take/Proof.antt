@@ -25,7 +25,8 @@ key-of-requires c κs =
     (omega (
       arith,
       deadline-below (arrived-ranged (a .s) (a .t) (a .cost) (pre .ranged) (pre .room)) (pre .time),
-      pre .place,
+      pre .leaf .place,
+      pre .leaf .winners .few,
     ))
 
 set-key-requires : tie.Need-set-key-requires

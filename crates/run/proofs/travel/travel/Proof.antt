@@ -5,7 +5,7 @@ use lib.ListN.{length, replicate, length-replicate}
 use mathlib.Core.List.{List, []}
 use mathlib.Core.Path.{_≡_, sym, _∙_, ap, subst⁻¹}
 use native.Mathlib.Omega.{arith}
-use Rattle.books.proofs.Accepted.{arrivals-read, horizon-read, fit-beside}
+use Rattle.books.proofs.Accepted.{arrivals-read, horizon-read, servers-read, fit-beside}
 use Rattle.books.proofs.Book.{Run, lentIn, standingAt, Book, book, turnBook, jobBook, segmentBook}
 use Rattle.books.proofs.jobs.FinishList.{finishes-again, finishes-length}
 use Rattle.books.proofs.jobs.Lined.{lined-follow}
@@ -14,6 +14,7 @@ use Rattle.books.proofs.travel.BetweenEvents.{bounded}
 use Rattle.books.proofs.travel.Travels.{Travels, travels-start}
 use Rattle.books.proofs.travel.WholeRun.{list-whole, count-whole, finishes-whole, postponed-whole, interrupted-all}
 use Rattle.books.specs.declared.Standing.{Standing}
+use Rattle.books.proofs.tree.Winners.{treeOf, Enough, leavesFor, leaves-enough}
 use Rattle.clock.specs.Clock.{lastTick}
 use Rattle.clock.specs.declared.Moment.{Moment}
 use Rattle.finish.specs.Finish.{isOpen, finishList}
@@ -29,8 +30,8 @@ use Rattle.run.proofs.travel.travel.Tie as tie
 header-of-requires : tie.Need-header-of-requires
 header-of-requires c κs = search needs
 
-levels-of-requires : tie.Need-levels-of-requires
-levels-of-requires c κs = search needs
+leaves-of-requires : tie.Need-leaves-of-requires
+leaves-of-requires c κs = search needs
 
 open-all-requires : tie.Need-open-all-requires
 open-all-requires c κs = omega (arith, arrivals-read _ (c .before .before .before .header-of .ensures), c .before .before .before .before .before .before .before .pre .1)
@@ -78,6 +79,16 @@ long p = omega (arith, ap length (all-open p), finishes-length (its p .arrivals)
 fit : (p : tie.After-behind2) → Fit (its p) (length (opened p))
 fit p = fit-beside (length (opened p)) (p .before .before .before .before .before .before .before .before .before .before .before .before .before .before .before .before .before .before .before .before .before .before .pre .0 .fit) (long p)
 
+-- how many leaves its tree has
+abbrev leaves : tie.After-behind2 → ℕ
+leaves p = p .before .before .before .before .before .before .before .before .before .before .before .before .before .before .before .before .leaves-of .result
+
+enough : (p : tie.After-behind2) → Enough (its p .table .count) (leaves p)
+enough p =
+    let read = servers-read _ (p .before .before .before .before .before .before .before .before .before .before .before .before .before .before .before .before .before .before .header-of .ensures) in
+    subst⁻¹ (Enough (its p .table .count)) (p .before .before .before .before .before .before .before .before .before .before .before .before .before .before .before .before .leaves-of .ensures ∙ ap leavesFor read)
+    (leaves-enough (its p .table .count) (fit p .servers))
+
 -- Where the run stands at its start, and its book then.
 abbrev from : tie.After-behind2 → Standing
 from p = p .before .before .before .before .before .before .from-start .result
@@ -88,7 +99,7 @@ lent p = lentIn (its p) (from p .moment .tick) (from p .current) (p .before .bef
 abbrev began : tie.After-behind2 → Book
 began p =
     book
-    (turnBook (replicate 128 lastTick) (replicate mostServers 0)
+    (turnBook (treeOf (leaves p) (replicate 128 lastTick)) (replicate mostServers 0)
     (segmentBook (p .before .before .before .before .before .before .before .before .before .before .before .before .before .before .before .before .before .before .before .before .before .before .args .list .now) (replicate mostServers 0) (from p .current)))
     (jobBook (first p) (replicate mostServers 0) (opened p))
 
@@ -99,10 +110,10 @@ starts p =
     subst⁻¹
     (λ (s : Standing).
     Travels (lentIn (its p) (s .moment .tick) (s .current) list (opened p)) (standingAt s)
-    (book (turnBook (replicate 128 lastTick) (replicate mostServers 0) (segmentBook list (replicate mostServers 0) (s .current)))
+    (book (turnBook (treeOf (leaves p) (replicate 128 lastTick)) (replicate mostServers 0) (segmentBook list (replicate mostServers 0) (s .current)))
     (jobBook (first p) (replicate mostServers 0) (opened p))))
     (p .before .before .before .before .before .before .from-start .ensures)
-    (travels-start list (opened p) (fit p) (open-again p) (lined .first-places) (lined .firsts))
+    (travels-start list (opened p) (fit p) (enough p) (open-again p) (lined .first-places) (lined .firsts))
 
 at-horizon : (p : tie.After-behind2) → p .before .before .before .before .before .before .before .before .before .before .before .before .before .before .before .before .before .before .header-of .result .horizon .tick ≡ its p .horizon .tick
 at-horizon p = horizon-read _ (p .before .before .before .before .before .before .before .before .before .before .before .before .before .before .before .before .before .before .header-of .ensures)
@@ -114,7 +125,6 @@ to-moment-requires p κs =
       long = long p;
       ahead = omega (arith, ap (λ (s : Standing). s .moment .tick) (p .before .before .before .before .before .before .from-start .ensures));
       in-time = omega (arith, at-horizon p);
-      halves = p .before .before .before .before .before .before .before .before .before .before .before .before .before .before .before .before .levels-of .ensures;
       follows = lined-follow (p .before .before .before .before .before .before .before .before .before .line-up .ensures);
       travels = starts p;
     }
@@ -124,7 +134,7 @@ abbrev left : tie.After-to-moment → Book
 left m =
     let l = m .to-moment .last .1 .1 .1 .1 .1 .1 in
     book
-    (turnBook (l .0) (l .1 .0) (segmentBook (m .to-moment .last .1 .0) (l .1 .1 .0) (m .to-moment .result .current)))
+    (turnBook (treeOf (leaves (m .before)) (l .0)) (l .1 .0) (segmentBook (m .to-moment .last .1 .0) (l .1 .1 .0) (m .to-moment .result .current)))
     (jobBook (l .1 .1 .1 .0) (l .1 .1 .1 .1 .0) (m .to-moment .last .1 .1 .0))
 
 came : (m : tie.After-to-moment) → Travels (lent (m .before)) (standingAt (m .to-moment .result)) (left m)
@@ -176,7 +186,7 @@ travel-spec =
     tie.close
     (tie.spec
     header-of-requires
-    levels-of-requires
+    leaves-of-requires
     open-all-requires
     line-up-requires
     from-start-requires

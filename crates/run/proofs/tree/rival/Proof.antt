@@ -9,46 +9,46 @@ use mathlib.Core.Logic.{_≢_}
 use mathlib.Core.Path.{_≡_, sym, _∙_, ap}
 use native.Mathlib.Decide.{ℕ-discrete}
 use native.Mathlib.Omega.{arith}
-use Rattle.books.proofs.tree.Winners.{keyAt, Winners, Beside, Set, Rival, root-least, root-some}
-use Rattle.run.proofs.Climb.{Climb, climb-starts, climb-goes-on, climb-ends, set-from}
+use Rattle.books.proofs.tree.Winners.{treeOf, Winners, Beside, Set, Rival, root-least, root-some}
+use Rattle.books.proofs.tree.Climb.{Climb, climb-starts, climb-goes-on, climb-ends, set-from}
 use Rattle.run.proofs.tree.rival.Statement.{statement}
 use Rattle.run.proofs.tree.rival.Tie as tie
 
 -- the tree that would stand if server i had the key k, and the climb in it had reached `at`, above the keys
-record Would (tree : List ℕ) (i k at least : ℕ) : Type 0 where
+record Would (n : ℕ) (tree : List ℕ) (i k at least : ℕ) : Type 0 where
   would : List ℕ
-  climb : Climb (set tree (64 + i) k) would at least
-  above : at < 64
+  climb : Climb n (set tree (n + i) k) would at least
+  above : at < n
 
 -- the least of all keys, with that of another server at server i, is the least of the others
-rival-from : {tree would : List ℕ} {i k r : ℕ} → Set tree would i k → getD would 1 0 ≡ r → (j : ℕ) → j < 64 → j ≢ i → k ≡ keyAt tree j
-    → Rival tree i r
-rival-from {tree} {would} {i} {k} {r} w root j below other e =
+rival-from : {n : ℕ} {tree would : List ℕ} {i k r : ℕ} → Set (treeOf n tree) (treeOf n would) i k → getD would 1 0 ≡ r → (j : ℕ) → j < n
+    → j ≢ i → k ≡ getD tree (n + j) 0 → Rival (treeOf n tree) i r
+rival-from {n} {tree} {would} {i} {k} {r} w root j below other e =
     record { least = λ m b o. omega (arith, root-least (w .winners) m b, w .elsewhere m b o); some = go (root-some (w .winners)) }
   where
-    go : (m : ℕ) × (m < 64) × (getD would 1 0 ≡ keyAt would m) → (m : ℕ) × (m < 64) × (m ≢ i) × (r ≡ keyAt tree m)
+    go : (m : ℕ) × (m < n) × (getD would 1 0 ≡ getD would (n + m) 0) → (m : ℕ) × (m < n) × (m ≢ i) × (r ≡ getD tree (n + m) 0)
     go (m, b, q) = by (ℕ-discrete m i)
       where
-        by : Dec (m ≡ i) → (m : ℕ) × (m < 64) × (m ≢ i) × (r ≡ keyAt tree m)
-        by (yes p) = (j, below, other, sym root ∙ q ∙ ap (keyAt would) p ∙ w .here ∙ e)
+        by : Dec (m ≡ i) → (m : ℕ) × (m < n) × (m ≢ i) × (r ≡ getD tree (n + m) 0)
+        by (yes p) = (j, below, other, sym root ∙ q ∙ ap (λ (x : ℕ). getD would (n + x) 0) p ∙ w .here ∙ e)
         by (no p) = (m, b, p, sym root ∙ q ∙ w .elsewhere m b p)
 
-module _ {tree : List ℕ} {i : ℕ} where
+module _ {n : ℕ} {tree : List ℕ} {i : ℕ} where
   -- the key beside it is stored at server i, and is the lesser of the two
-  would-starts : Winners tree → i < 64 → (s : ℕ) → Beside (64 + i) s → Would tree i (getD tree s 0) ((64 + i) / 2) (getD tree s 0)
+  would-starts : Winners (treeOf n tree) → i < n → (s : ℕ) → Beside (n + i) s → Would n tree i (getD tree s 0) ((n + i) / 2) (getD tree s 0)
   would-starts w h s beside =
       record {
-        would = set (set tree (64 + i) (getD tree s 0)) ((64 + i) / 2) (getD tree s 0);
+        would = set (set tree (n + i) (getD tree s 0)) ((n + i) / 2) (getD tree s 0);
         climb =
             climb-goes-on (climb-starts w i (getD tree s 0) h) s (getD tree s 0) beside
-            (omega (arith, getD-set-other tree (64 + i) s (getD tree s 0) 0 (λ e. omega arith)))
-            (omega arith);
+            (omega (arith, getD-set-other tree (n + i) s (getD tree s 0) 0 (λ e. omega arith)))
+            (omega (arith, w .some));
         above = omega arith;
       }
 
   -- what is beside the climb is as in the tree that is there
-  would-goes-on : {k at least : ℕ} → Would tree i k at least → (s v : ℕ) → Beside at s → v ≡ min least (getD tree s 0) → 1 < at
-      → Would tree i k (at / 2) v
+  would-goes-on : {k at least : ℕ} → Would n tree i k at least → (s v : ℕ) → Beside at s → v ≡ min least (getD tree s 0) → 1 < at
+      → Would n tree i k (at / 2) v
   would-goes-on {k} {at} {least} c s v beside lesser more =
       record {
         would = set (c .would) (at / 2) v;
@@ -57,24 +57,24 @@ module _ {tree : List ℕ} {i : ℕ} where
       }
     where
       same : getD (c .would) s 0 ≡ getD tree s 0
-      same = c .climb .ahead s (omega arith) (λ e. omega arith) ∙ getD-set-other tree (64 + i) s k 0 (λ e. omega (arith, c .above))
+      same = c .climb .ahead s (omega arith) (λ e. omega arith) ∙ getD-set-other tree (n + i) s k 0 (λ e. omega (arith, c .above, c .climb .pairs))
 
   -- at the root
-  would-ends : Winners tree → i < 64 → (s : ℕ) → Beside (64 + i) s → {at least : ℕ} → Would tree i (getD tree s 0) at least → at ≤ 1
-      → Rival tree i least
+  would-ends : Winners (treeOf n tree) → i < n → (s : ℕ) → Beside (n + i) s → {at least : ℕ} → Would n tree i (getD tree s 0) at least → at ≤ 1
+      → Rival (treeOf n tree) i least
   would-ends w h s beside {at} {least} c end =
       rival-from (set-from w i (getD tree s 0) h (climb-ends (c .climb) end) (c .climb .keys))
       (ap (λ (n : ℕ). getD (c .would) n 0) (omega (arith, c .climb .inner)) ∙ c .climb .reached)
-      (s - 64)
-      (omega arith)
-      (λ e. omega arith)
-      (ap (λ (n : ℕ). getD tree n 0) (omega arith))
+      (s - n)
+      (omega (arith, w .some, w .pairs))
+      (λ e. omega (arith, w .some, w .pairs))
+      (ap (λ (q : ℕ). getD tree q 0) (omega (arith, w .some, w .pairs)))
 
 abbrev Inv-loop : tie.InvT-loop
-Inv-loop tree i leaf least₀ at₀ least at = Would tree i least₀ at least
+Inv-loop tree leaves i leaf least₀ at₀ least at = Would leaves tree i least₀ at least
 
 abbrev μ-loop : tie.MeasureT-loop
-μ-loop tree i leaf least₀ at₀ least at = at
+μ-loop tree leaves i leaf least₀ at₀ least at = at
 
 add-leaf : tie.Need-add-leaf Inv-loop μ-loop
 add-leaf c = search needs
@@ -89,7 +89,7 @@ element-copy-out-least : tie.Need-element-copy-out-least Inv-loop μ-loop
 element-copy-out-least c = search needs
 
 loop-holds : tie.Need-loop-holds Inv-loop μ-loop
-loop-holds c = would-starts (c .before .before .pre .1) (c .before .before .pre .0) (c .before .sibling .result) (c .before .sibling .ensures)
+loop-holds c = would-starts (c .before .before .pre .winners) (c .before .before .pre .place) (c .before .sibling .result) (c .before .sibling .ensures)
 
 sibling-requires-2 : tie.Need-sibling-requires-2 Inv-loop μ-loop
 sibling-requires-2 c κs = search needs
@@ -116,7 +116,7 @@ returns : tie.Need-returns Inv-loop μ-loop
 returns c =
     let start = c .before .before .before .before in
     let beside = c .before .before .before .sibling in
-    would-ends (start .pre .1) (start .pre .0) (beside .result) (beside .ensures) (c .before .loop .inv) (c .loop-test .left)
+    would-ends (start .pre .winners) (start .pre .place) (beside .result) (beside .ensures) (c .before .loop .inv) (c .loop-test .left)
 
 pub rival-spec : {M : Type 1} → statement M
 rival-spec =
