@@ -2,7 +2,7 @@
 -- ticks from t to b, times the frame. Admission gives it at the start, and every move keeps it. A server with work and a deadline that
 -- has come would break it.
 use Prim.Native.Nat.{ℕ, _+_, _-_, _*_, _≤_, _<_}
-use borrow.Author.Tests.{eqb-false, le-leb}
+use borrow.Author.Tests.{le-leb}
 use mathlib.Core.Bool.{Bool, true, false}
 use mathlib.Core.List.{List, [], _∷_}
 use mathlib.Core.Logic.{inl, inr}
@@ -19,6 +19,7 @@ use Rattle.clock.specs.declared.Moment.{Moment}
 use Rattle.counting.proofs.SumLaws.{sum-mono, sum-falls, sum-at, sum-times}
 use Rattle.counting.proofs.TestLaws.{not-both}
 use Rattle.counting.specs.Sum.{sum}
+use Rattle.dispatcher.proofs.PickLaws.{earliest-busy}
 use Rattle.dispatcher.specs.Course.{Move, anArrival, aTick, after}
 use Rattle.dispatcher.specs.Moves.{arrival, tick}
 use Rattle.dispatcher.specs.Pick.{serverAt}
@@ -27,10 +28,10 @@ use Rattle.history.proofs.ChoiceLaws.{nobody≢given, given-deadline}
 use Rattle.history.specs.Choice.{given}
 use Rattle.moments.proofs.MomentLaws.{arrival-keeps}
 use Rattle.moments.specs.Moments.{choiceOf}
+use Rattle.server.proofs.PassedOverLaws.{busy-not-passed-over}
 use Rattle.server.proofs.Potential.{Rests, HasBudgetOrRests, ownShare, potential}
 use Rattle.server.proofs.PotentialLaws.{owed-reached, owed-beyond, potential-busy, rests-potential, served-beyond}
-use Rattle.server.proofs.RangeLaws.{busy-charged}
-use Rattle.server.specs.Server.{idle}
+use Rattle.server.specs.Server.{idle, passedOver}
 use Rattle.server.specs.declared.Server.{Server}
 use Rattle.demand_3.proofs.BandwidthLaws.{canGet, arrival-pays, tick-pays}
 use Rattle.demand_3.proofs.CourseLaws.{under-own}
@@ -118,11 +119,9 @@ module _ {H : Length} {t : Table} (some : 1 ≤ H .ticks) (admitted : Admitted H
         (rw (choice, under-own p b (serverAt d p .deadline), le-leb _ _ h) at (tick-pays admitted b (ok .standing) p known)))
         (ok .covers b)))
 
-    -- where every server with work and budget has a later deadline, each server can get no more than its share
+    -- where every server that is not passed over has a later deadline, each server can get no more than its share
     abbrev AllBeyond : Type 0
-    AllBeyond =
-        (i : ℕ) → i < t .count → idle (serverAt d i) ≡ false → 1 ≤ serverAt d i .remaining .ticks
-        → b .tick < serverAt d i .deadline .tick
+    AllBeyond = (i : ℕ) → i < t .count → passedOver (serverAt d i) ≡ false → b .tick < serverAt d i .deadline .tick
 
     beyond-covers : AllBeyond → CoversNext
     beyond-covers beyond = shares-cover (next .clock) b (canGet H b next) (λ i known. each i known (tick-server (ok .standing .within) i))
@@ -135,14 +134,13 @@ module _ {H : Length} {t : Table} (some : 1 ≤ H .ticks) (admitted : Admitted H
         left i known same (inr rests) w e = rests-share standing (next .clock) b i known rests
         left i known same (inl budget) true e = rests-share standing (next .clock) b i known (inl e)
         left i known same (inl budget) false e =
-            let later = beyond i known (ap idle (sym same) ∙ e) (rw same at budget) in
+            let later = beyond i known (ap passedOver (sym same) ∙ busy-not-passed-over (serverAt next i) e budget) in
             rw (potential-busy H (serverAt next i) (next .clock) b e, owed-beyond H b (serverAt next i) (rw same later)) (omega arith)
 
         each : (i : ℕ) → i < t .count → TickServer d i → canGet H b next i ≤ shareFrom (next .clock) b i
         each i known (leaves same away) = left i known same (standing-rests standing i known) (idle (serverAt next i)) refl
         each i known (serves first now choice) =
-            let budget = busy-charged (ok .standing .within .servers i (first .among)) (eqb-false _ _ (first .works)) in
-            rw (now, served-beyond H (standing-booked admitted (ok .standing) i known) b (next .clock) (beyond i known (first .works) budget))
+            rw (now, served-beyond H (standing-booked admitted (ok .standing) i known) b (next .clock) (beyond i known (first .works)))
             (omega arith)
 
     tick-covers : CoversNext
@@ -150,12 +148,12 @@ module _ {H : Length} {t : Table} (some : 1 ≤ H .ticks) (admitted : Admitted H
       where
         go : TickCase d → CoversNext
         go (refusedTick same choice) = rw same (ok .covers b)
-        go (idleTick none clock choice) = beyond-covers (λ i known busy budget. not-both (none i (omega (arith, ok .standing .count))) busy)
+        go (idleTick none clock choice) = beyond-covers (λ i known runs. not-both (none i (omega (arith, ok .standing .count))) runs)
         go (givenTick p first clock choice) = at (decLt (b .tick) (serverAt d p .deadline .tick))
           where
             at : Dec (b .tick < serverAt d p .deadline .tick) → CoversNext
             at (yes h) =
-                beyond-covers (λ i known busy budget. le-trans h (first .least i (omega (arith, ok .standing .count)) busy))
+                beyond-covers (λ i known runs. le-trans h (first .least i (omega (arith, ok .standing .count)) runs))
             at (no h) = paid-covers p (omega (arith, first .among, ok .standing .count)) clock choice (omega arith)
 
   tick-covered : {d : Dispatcher} → Covered H t d → Covered H t (tick d .dispatcher)
@@ -216,4 +214,4 @@ module _ {H : Length} {t : Table} (some : 1 ≤ H .ticks) (admitted : Admitted H
       go (idleTick none clock choice) = absurd (nobody≢given (sym choice ∙ e))
       go (givenTick p first clock choice) =
           rw (clock, sym (given-deadline (sym choice ∙ e)))
-          (omega (arith, deadline-ahead ok p (omega (arith, first .among, ok .standing .count)) (first .works)))
+          (omega (arith, deadline-ahead ok p (omega (arith, first .among, ok .standing .count)) (earliest-busy first)))

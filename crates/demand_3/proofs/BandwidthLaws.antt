@@ -17,6 +17,7 @@ use Rattle.booking.specs.Share.{share}
 use Rattle.clock.specs.Clock.{ticks, until}
 use Rattle.clock.specs.declared.Length.{Length}
 use Rattle.clock.specs.declared.Moment.{Moment}
+use Rattle.dispatcher.proofs.PickLaws.{earliest-busy}
 use Rattle.dispatcher.specs.Course.{Move, anArrival, aTick}
 use Rattle.dispatcher.specs.Moves.{arrival, tick}
 use Rattle.dispatcher.specs.Pick.{serverAt, Earliest}
@@ -61,8 +62,8 @@ module _ {H : Length} {t : Table} (admitted : Admitted H t) (b : Moment) where
       own : Earliest d (d .count) i → (u : Bool) → leb (serverAt d i .deadline .tick) (b .tick) ≡ u
           → potential H (next .clock) b (served (serverAt d i)) + cond u (H .ticks) 0 ≤ canGet H b d i
       own first true u =
-          served-potential H booked b (d .clock) (next .clock) (first .works)
-          (busy-charged (ok .within .servers i (first .among)) (eqb-false _ _ (first .works)))
+          served-potential H booked b (d .clock) (next .clock) (earliest-busy first)
+          (busy-charged (ok .within .servers i (first .among)) (eqb-false _ _ (earliest-busy first)))
           (leb-true _ _ u)
       own first false u = rw (served-beyond H booked b (next .clock) (leb-false _ _ u)) (omega arith)
 

@@ -13,10 +13,11 @@ use Rattle.arrival.specs.Arrival.{faultyArrival}
 use Rattle.clock.specs.Clock.{later, ticks}
 use Rattle.clock.specs.declared.Length.{Length}
 use Rattle.refusal.specs.Refusals.{gave, accepted}
+use Rattle.server.proofs.PassedOverLaws.{not-passed-over-busy}
 use Rattle.server.proofs.RangeLaws.{ranged-later, arrived-ranged, served-ranged}
 use Rattle.server.specs.Moves.{arrived, served}
 use Rattle.server.specs.Ranges.{Ranged}
-use Rattle.server.specs.Server.{vacant, idle}
+use Rattle.server.specs.Server.{vacant, passedOver}
 use Rattle.server.specs.declared.Server.{Server}
 use Rattle.sizes.specs.Sizes.{clockEnd, mostWaiting}
 use Rattle.dispatcher.specs.declared.Dispatcher.{Dispatcher}
@@ -109,13 +110,13 @@ arrival-within {d} ok i cost = go (faultyArrival (d .count) i cost) refl (tooMuc
         (server-within ok i (known f) (arrived (serverAt d i) (d .clock) cost)
         (arrived-ranged (serverAt d i) (d .clock) cost (ok .servers i (known f)) (ltb-false _ _ e)))
 
--- a tick that is given to a server with work
-pub ran-within : {d : Dispatcher} → Within d → d .clock .tick < clockEnd → (i : ℕ) → i < d .count → idle (serverAt d i) ≡ false
-    → Within (ran d i .dispatcher)
+-- a tick that is given to a server that is not passed over
+pub ran-within : {d : Dispatcher} → Within d → d .clock .tick < clockEnd → (i : ℕ) → i < d .count
+    → passedOver (serverAt d i) ≡ false → Within (ran d i .dispatcher)
 unfolding ran
 ran-within {d} ok h i b w =
     server-within (later-within ok h) i b (served (serverAt d i))
-    (served-ranged (serverAt d i) (d .clock) (ok .servers i b) (eqb-false _ _ w))
+    (served-ranged (serverAt d i) (d .clock) (ok .servers i b) (eqb-false _ _ (not-passed-over-busy (serverAt d i) w)))
 
 -- a clock within its range that does not stand at its end has a tick left
 pub before-end : {d : Dispatcher} → Within d → (d .clock .tick ≡ clockEnd → ⊥) → d .clock .tick < clockEnd

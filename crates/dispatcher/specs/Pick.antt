@@ -7,7 +7,7 @@ use mathlib.Core.Bool.{Bool, not, _&&_, _||_, true, false}
 use mathlib.Core.Path.{_≡_}
 use Rattle.counting.specs.Below.{every}
 use Rattle.counting.specs.First.{first}
-use Rattle.server.specs.Server.{vacant, idle}
+use Rattle.server.specs.Server.{vacant, passedOver}
 use Rattle.server.specs.declared.Server.{Server}
 use Rattle.dispatcher.specs.declared.Dispatcher.{Dispatcher}
 
@@ -15,11 +15,11 @@ use Rattle.dispatcher.specs.declared.Dispatcher.{Dispatcher}
 abbrev pub serverAt : Dispatcher → ℕ → Server
 serverAt d i = getD (d .servers) i vacant
 
--- server i has work, and no server with work has an earlier deadline
+-- server i is not passed over, and of those that are not none has an earlier deadline
 unfoldable pub mayRun : Dispatcher → ℕ → Bool
 mayRun d i =
-    not (idle (serverAt d i))
-    && every (d .count) (λ j. idle (serverAt d j) || leb (serverAt d i .deadline .tick) (serverAt d j .deadline .tick))
+    not (passedOver (serverAt d i))
+    && every (d .count) (λ j. passedOver (serverAt d j) || leb (serverAt d i .deadline .tick) (serverAt d j .deadline .tick))
 
 -- the lowest number of those, and the count of servers where there is none
 unfoldable pub picked : Dispatcher → ℕ
@@ -29,10 +29,10 @@ picked d = first (d .count) (mayRun d)
 -- servers, that one is i:
 pub record Earliest (d : Dispatcher) (k i : ℕ) : Type 0 where
   pub among : i < k
-  pub works : idle (serverAt d i) ≡ false
-  pub least : (j : ℕ) → j < k → idle (serverAt d j) ≡ false → serverAt d i .deadline .tick ≤ serverAt d j .deadline .tick
-  pub ties : (j : ℕ) → j < k → idle (serverAt d j) ≡ false → serverAt d j .deadline .tick ≡ serverAt d i .deadline .tick → i ≤ j
+  pub works : passedOver (serverAt d i) ≡ false
+  pub least : (j : ℕ) → j < k → passedOver (serverAt d j) ≡ false → serverAt d i .deadline .tick ≤ serverAt d j .deadline .tick
+  pub ties : (j : ℕ) → j < k → passedOver (serverAt d j) ≡ false → serverAt d j .deadline .tick ≡ serverAt d i .deadline .tick → i ≤ j
 
--- none of the first k has work
+-- all of the first k are passed over
 abbrev pub NoneWorks : Dispatcher → ℕ → Type 0
-NoneWorks d k = (j : ℕ) → j < k → idle (serverAt d j) ≡ true
+NoneWorks d k = (j : ℕ) → j < k → passedOver (serverAt d j) ≡ true

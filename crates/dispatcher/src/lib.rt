@@ -7,7 +7,7 @@ mod places;
 ghost use mathlib.Core.Path.{_≡_};
 ghost use Prim.Native.Nat.{_<_};
 ghost use mathlib.Core.Bool.{false};
-ghost use Rattle.server.specs.Server.{idle};
+ghost use Rattle.server.specs.Server.{passedOver};
 ghost use Rattle.sizes.specs.Sizes.{clockEnd};
 ghost use Rattle.dispatcher.specs.Moves.{leaving, standing, arrivalSays, arrival, turnOf, tickSays, tick, ran};
 ghost use Rattle.clock.specs.Clock.{later, ticks};
@@ -99,7 +99,7 @@ fn run(d: Dispatcher, i: usize) -> Ticked
     requires { ⌜ Within d ⌝ }
     requires { ⌜ d .clock .tick < clockEnd ⌝ }
     requires { ⌜ i < d .count ⌝ }
-    requires { ⌜ idle (serverAt d i) ≡ false ⌝ }
+    requires { ⌜ passedOver (serverAt d i) ≡ false ⌝ }
     ensures { λ r. ⌜ tickSays r ≡ ran d i ⌝ }
 {
     let s = places::server_at(d, i);

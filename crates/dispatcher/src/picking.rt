@@ -2,7 +2,7 @@
 ghost use mathlib.Core.Bool.{cond};
 ghost use mathlib.Core.Path.{_≡_};
 ghost use Rattle.clock.specs.Clock.{lastTick, moment};
-ghost use Rattle.server.specs.Server.{idle};
+ghost use Rattle.server.specs.Server.{passedOver};
 ghost use Rattle.dispatcher.specs.Pick.{picked};
 ghost use Rattle.dispatcher.specs.Within.{Within};
 use crate::Dispatcher;
@@ -31,11 +31,11 @@ pub(crate) fn pick(d: Dispatcher) -> usize
     best
 }
 
-// The deadline of a server with work; of an idle one the last moment, which is later than any deadline.
+// The deadline of a server; of one that is passed over the last moment, which is later than any deadline.
 fn due(s: Server) -> Moment
-    ensures { λ r. ⌜ r ≡ cond (idle s) (moment lastTick) (s .deadline) ⌝ }
+    ensures { λ r. ⌜ r ≡ cond (passedOver s) (moment lastTick) (s .deadline) ⌝ }
 {
-    if s.waiting.ticks == 0 {
+    if steps::is_passed_over(s) {
         return Moment {
             tick: clock::LAST_TICK,
         };

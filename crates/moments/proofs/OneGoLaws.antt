@@ -18,8 +18,9 @@ use Rattle.dispatcher.specs.Pick.{serverAt, picked, Earliest, NoneWorks}
 use Rattle.dispatcher.specs.Within.{Within}
 use Rattle.dispatcher.specs.declared.Dispatcher.{Dispatcher}
 use Rattle.refusal.specs.Refusals.{Said, gave}
+use Rattle.server.proofs.PassedOverLaws.{busy-not-passed-over}
 use Rattle.server.specs.Moves.{oneTickLess, postponed, served, spent}
-use Rattle.server.specs.Server.{holding, vacant, idle}
+use Rattle.server.specs.Server.{holding, vacant, passedOver}
 use Rattle.server.specs.declared.Server.{Server}
 use Rattle.sizes.specs.Sizes.{clockEnd}
 use Rattle.workfile.specs.Work.{Work}
@@ -90,13 +91,15 @@ module _ (d : Dispatcher) (i : ℕ) (ok : Within d) (p : Earliest d (d .count) i
   pub other : (k j : ℕ) → (j ≡ i → ⊥) → serverAt (ranFor d i k) j ≡ serverAt d j
   other k j n = getD-set-other (d .servers) i j (servedFor (serverAt d i) k) vacant n
 
-  -- the pick stays: it depends on who has work and on the deadlines
+  -- the pick stays: it depends on who is passed over and on the deadlines
   still-earliest : (k : ℕ) → k < serverAt d i .remaining .ticks → k < serverAt d i .waiting .ticks
       → Earliest (ranFor d i k) (d .count) i
   still-earliest k c w =
       record {
         among = p .among;
-        works = subst⁻¹ (λ (s : Server). idle s ≡ false) (own k c) (ne-eqb (serverAt d i .waiting .ticks - k) 0 (omega arith));
+        works =
+            subst⁻¹ (λ (s : Server). passedOver s ≡ false) (own k c)
+            (busy-not-passed-over (lessBy (serverAt d i) k) (ne-eqb (serverAt d i .waiting .ticks - k) 0 (omega arith)) (omega arith));
         least = λ j b v. least j b v (ℕ-discrete j i);
         ties = λ j b v q. ties j b v q (ℕ-discrete j i);
       }
@@ -104,18 +107,18 @@ module _ (d : Dispatcher) (i : ℕ) (ok : Within d) (p : Earliest d (d .count) i
       deadline : serverAt (ranFor d i k) i .deadline .tick ≡ serverAt d i .deadline .tick
       deadline = ap (λ (s : Server). s .deadline .tick) (own k c)
 
-      least : (j : ℕ) → j < d .count → idle (serverAt (ranFor d i k) j) ≡ false → Dec (j ≡ i)
+      least : (j : ℕ) → j < d .count → passedOver (serverAt (ranFor d i k) j) ≡ false → Dec (j ≡ i)
           → serverAt (ranFor d i k) i .deadline .tick ≤ serverAt (ranFor d i k) j .deadline .tick
       least j b v (yes q) = subst⁻¹ (λ (n : ℕ). serverAt (ranFor d i k) i .deadline .tick ≤ serverAt (ranFor d i k) n .deadline .tick) q (omega arith)
       least j b v (no n) =
           subst⁻¹ (λ (s : Server). serverAt (ranFor d i k) i .deadline .tick ≤ s .deadline .tick) (other k j n)
-          (omega (arith, deadline, p .least j b (subst (λ (s : Server). idle s ≡ false) (other k j n) v)))
+          (omega (arith, deadline, p .least j b (subst (λ (s : Server). passedOver s ≡ false) (other k j n) v)))
 
-      ties : (j : ℕ) → j < d .count → idle (serverAt (ranFor d i k) j) ≡ false
+      ties : (j : ℕ) → j < d .count → passedOver (serverAt (ranFor d i k) j) ≡ false
           → serverAt (ranFor d i k) j .deadline .tick ≡ serverAt (ranFor d i k) i .deadline .tick → Dec (j ≡ i) → i ≤ j
       ties j b v q (yes e) = omega arith
       ties j b v q (no n) =
-          p .ties j b (subst (λ (s : Server). idle s ≡ false) (other k j n) v)
+          p .ties j b (subst (λ (s : Server). passedOver s ≡ false) (other k j n) v)
           (sym (ap (λ (s : Server). s .deadline .tick) (other k j n)) ∙ q ∙ deadline)
 
   -- one tick more of the same

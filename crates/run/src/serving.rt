@@ -33,7 +33,7 @@ pub(crate) fn key_of(s: Server, i: usize) -> u64
     requires { ⌜ s .deadline .tick * 64 + i ≤ lastTick ⌝ }
     ensures { λ r. ⌜ r ≡ keyOf s i ⌝ }
 {
-    if s.waiting.ticks == 0 {
+    if steps::is_passed_over(s) {
         return clock::LAST_TICK;
     }
     s.deadline.tick * 64 + i as u64

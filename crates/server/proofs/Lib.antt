@@ -1,4 +1,5 @@
 pub mod MoveLaws
+pub mod PassedOverLaws
 pub mod Potential
 pub mod PotentialLaws
 pub mod Promises

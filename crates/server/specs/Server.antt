@@ -24,3 +24,7 @@ vacant = fresh (booked 0 0)
 -- "A server is idle when w = 0."
 abbrev pub idle : Server → Bool
 idle s = eqb (s .waiting .ticks) 0
+
+-- whom step 2 passes over, "Among servers with waiting work the one with the earliest deadline runs": a server without
+abbrev pub passedOver : Server → Bool
+passedOver s = idle s

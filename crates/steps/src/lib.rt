@@ -1,11 +1,11 @@
-// The code of steps 1 and 3 of a moment, at one server: it takes the work of an arrival, and it is served for a tick. Both are proved for
-// all numbers: where 64 bits might not hold what a step works out, where the work would pass 4,294,967,295, and where there is no work or
-// no budget to serve, the server stays as it is. A dispatcher takes no such step.
+// The code of steps 1 to 3 of a moment, at one server: it takes the work of an arrival, it is passed over or not, and it is served for a
+// tick. All are proved for all numbers: where 64 bits might not hold what a step works out, where the work would pass 4,294,967,295, and
+// where there is no work or no budget to serve, the server stays as it is. A dispatcher takes no such step.
 mod arriving;
 mod fitting;
 
 ghost use mathlib.Core.Path.{_≡_};
-ghost use Rattle.server.specs.Server.{holding};
+ghost use Rattle.server.specs.Server.{holding, passedOver};
 ghost use Rattle.steps.specs.Steps.{afterArrival, afterTick};
 use clock::Length;
 use clock::Moment;
@@ -22,6 +22,13 @@ pub fn take(s: Server, now: Moment, cost: Length) -> Server
         return s;
     }
     arriving::arrive(s, now, cost)
+}
+
+// Whether step 2 passes the server over.
+pub fn is_passed_over(s: Server) -> bool
+    ensures { λ r. ⌜ r ≡ passedOver s ⌝ }
+{
+    s.waiting.ticks == 0
 }
 
 // Step 3: the server with one tick less to spend and to do, and postponed where that was the last of its budget.

@@ -14,7 +14,7 @@ use Rattle.dispatcher.specs.Pick.{serverAt, Earliest}
 use Rattle.dispatcher.specs.declared.Dispatcher.{Dispatcher}
 use Rattle.moments.proofs.OneGo.{servedFor, ranFor}
 use Rattle.moments.proofs.OneGoLaws.{served-spent}
-use Rattle.server.specs.Server.{vacant, idle, holding}
+use Rattle.server.specs.Server.{vacant, passedOver, holding}
 use Rattle.server.specs.declared.Server.{Server}
 use Rattle.sizes.specs.Sizes.{clockEnd, mostFrame, mostServers}
 use Rattle.books.proofs.Book.{SegmentBook, withWaits}
@@ -114,7 +114,7 @@ budgets-deadline : (s : Server) (n : ℕ) → budgetsOn s n .deadline .tick ≡ 
 unfolding budgetsOn
 budgets-deadline s n = refl
 
-still-works : (s : Server) (n : ℕ) → n * s .budget .ticks < s .waiting .ticks → idle (budgetsOn s n) ≡ false
+still-works : (s : Server) (n : ℕ) → n * s .budget .ticks < s .waiting .ticks → passedOver (budgetsOn s n) ≡ false
 unfolding budgetsOn
 still-works s n less = ne-eqb (s .waiting .ticks - n * s .budget .ticks) 0 (omega arith)
 
@@ -162,7 +162,7 @@ pub wins-picked : (tree : Tree) (d : Dispatcher) (i : ℕ) (here : i < length (d
 wins-picked tree d i here among few enough keyed n works wins =
     record {
       among = among;
-      works = subst⁻¹ (λ (s : Server). idle s ≡ false) (on-own d i here n) (still-works (serverAt d i) n works);
+      works = subst⁻¹ (λ (s : Server). passedOver s ≡ false) (on-own d i here n) (still-works (serverAt d i) n works);
       least = λ j b v. least j b v (ℕ-discrete j i);
       ties = λ j b v e. ties j b v e (ℕ-discrete j i);
     }
@@ -170,7 +170,7 @@ wins-picked tree d i here among few enough keyed n works wins =
     own : serverAt (ranBudgets d i n) i .deadline .tick ≡ serverAt d i .deadline .tick + n * serverAt d i .period .ticks
     own = ap (λ (s : Server). s .deadline .tick) (on-own d i here n) ∙ budgets-deadline (serverAt d i) n
 
-    before : (j : ℕ) → j < d .count → idle (serverAt (ranBudgets d i n) j) ≡ false → (j ≡ i → ⊥)
+    before : (j : ℕ) → j < d .count → passedOver (serverAt (ranBudgets d i n) j) ≡ false → (j ≡ i → ⊥)
         → serverAt (ranBudgets d i n) i .deadline .tick * 64 + i < serverAt (ranBudgets d i n) j .deadline .tick * 64 + j
     before j b v other =
         let same = on-other d i here n j other in
@@ -179,17 +179,17 @@ wins-picked tree d i here among few enough keyed n works wins =
           own,
           wins j (omega arith) other,
           keyed j (omega arith) other,
-          key-works (serverAt d j) j (subst (λ (s : Server). idle s ≡ false) same v),
+          key-works (serverAt d j) j (subst (λ (s : Server). passedOver s ≡ false) same v),
           ap (λ (s : Server). s .deadline .tick) same,
         )
 
-    least : (j : ℕ) → j < d .count → idle (serverAt (ranBudgets d i n) j) ≡ false → Dec (j ≡ i)
+    least : (j : ℕ) → j < d .count → passedOver (serverAt (ranBudgets d i n) j) ≡ false → Dec (j ≡ i)
         → serverAt (ranBudgets d i n) i .deadline .tick ≤ serverAt (ranBudgets d i n) j .deadline .tick
     least j b v (yes q) =
         subst⁻¹ (λ (m : ℕ). serverAt (ranBudgets d i n) i .deadline .tick ≤ serverAt (ranBudgets d i n) m .deadline .tick) q (omega arith)
     least j b v (no other) = omega (arith, before j b v other)
 
-    ties : (j : ℕ) → j < d .count → idle (serverAt (ranBudgets d i n) j) ≡ false
+    ties : (j : ℕ) → j < d .count → passedOver (serverAt (ranBudgets d i n) j) ≡ false
         → serverAt (ranBudgets d i n) j .deadline .tick ≡ serverAt (ranBudgets d i n) i .deadline .tick → Dec (j ≡ i) → i ≤ j
     ties j b v e (yes q) = omega arith
     ties j b v e (no other) = omega (arith, before j b v other)

@@ -7,7 +7,7 @@ use native.Mathlib.Nat.{not-suc-le-zero, pos-of-ne-zero}
 use native.Mathlib.Numerals.{add-one}
 use native.Mathlib.Omega.{arith}
 use Rattle.clock.specs.declared.Moment.{Moment}
-use Rattle.dispatcher.proofs.PickLaws.{picked-earliest, picked-none}
+use Rattle.dispatcher.proofs.PickLaws.{earliest-busy, picked-earliest, picked-none}
 use Rattle.dispatcher.specs.Moves.{arrival}
 use Rattle.dispatcher.specs.Pick.{serverAt, picked, Earliest}
 use Rattle.dispatcher.specs.declared.Dispatcher.{Dispatcher}
@@ -54,7 +54,7 @@ module _ {w : Work} {places : ℕ} (fit : Fit w places) where
           go : Dec (picked d < d .count) → Before w (suc t)
           go (yes some) =
               let earliest : Earliest d (d .count) (picked d) = picked-earliest d some in
-              let works : serverAt d (picked d) .waiting .ticks ≡ 0 → ⊥ = eqb-false _ _ (earliest .works) in
+              let works : serverAt d (picked d) .waiting .ticks ≡ 0 → ⊥ = eqb-false _ _ (earliest-busy earliest) in
               stands-next
               (event-stands fit s 0 end ahead (picked d) earliest
               (busy-charged (stands-within fit s (omega (arith, end)) .servers (picked d) some) works)

@@ -7,6 +7,7 @@ use native.Mathlib.Nat.{pos-of-ne-zero}
 use native.Mathlib.Omega.{arith}
 use Rattle.clock.specs.Clock.{lastTick}
 use Rattle.clock.specs.declared.Moment.{Moment}
+use Rattle.dispatcher.proofs.PickLaws.{earliest-busy}
 use Rattle.dispatcher.specs.Pick.{serverAt, Earliest}
 use Rattle.dispatcher.specs.Within.{Within}
 use Rattle.finish.specs.Finish.{finish}
@@ -102,7 +103,7 @@ module _ {r : Run} {h : Here} {b : Book} (fit : Fit (r .work) (length (r .finish
     picked-ranged = now-within .servers i (pick .among)
 
     pub picked-waits : 0 < serverAt (h .dispatcher) i .waiting .ticks
-    picked-waits = pos-of-ne-zero (eqb-false _ _ (pick .works))
+    picked-waits = pos-of-ne-zero (eqb-false _ _ (earliest-busy pick))
 
     pub picked-charged : 0 < serverAt (h .dispatcher) i .remaining .ticks
-    picked-charged = busy-charged picked-ranged (eqb-false _ _ (pick .works))
+    picked-charged = busy-charged picked-ranged (eqb-false _ _ (earliest-busy pick))

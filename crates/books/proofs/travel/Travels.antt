@@ -11,6 +11,7 @@ use Rattle.dispatcher.specs.Start.{atStart}
 use Rattle.finish.specs.Finish.{isOpen, finish, finishList}
 use Rattle.judgement.proofs.FitLaws.{Fit}
 use Rattle.moments.specs.Moments.{atMoment, history}
+use Rattle.server.proofs.PassedOverLaws.{idle-passed-over}
 use Rattle.sizes.specs.Sizes.{mostServers}
 use Rattle.workfile.specs.Work.{Work, work}
 use Rattle.books.specs.declared.Current.{Current}
@@ -25,7 +26,7 @@ use Rattle.books.proofs.stretches.Segments.{segments-lent}
 use Rattle.books.proofs.travel.ArrivalTaken.{Taking}
 use Rattle.books.proofs.travel.Kept.{Kept, counts-start}
 use Rattle.books.proofs.travel.Stands.{stands-start, start-waits-none}
-use Rattle.books.proofs.tree.Keys.{key-idle, Keyed}
+use Rattle.books.proofs.tree.Keys.{key-passed-over, Keyed}
 use Rattle.books.proofs.tree.Winners.{Tree, treeOf, rootOf, Enough, winners-same}
 
 pub record Travels (r : Run) (h : Here) (b : Book) : Type 0 where
@@ -64,7 +65,7 @@ start-keyed w {leaves} e =
       enough = e .enough;
       keys = λ i b.
           getD-replicate 128 (leaves + i) lastTick 0 (omega (arith, e .few))
-          ∙ sym (key-idle (serverAt (atMoment w 0) i) i (eq-eqb _ _ (start-waits-none w i)));
+          ∙ sym (key-passed-over (serverAt (atMoment w 0) i) i (idle-passed-over (serverAt (atMoment w 0) i) (eq-eqb _ _ (start-waits-none w i))));
     }
 
 -- with the finish list as it is when every job is open, and the first job of each server

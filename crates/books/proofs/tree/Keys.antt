@@ -10,19 +10,19 @@ use Rattle.dispatcher.specs.Pick.{serverAt, Earliest, NoneWorks}
 use Rattle.dispatcher.specs.Within.{Within}
 use Rattle.dispatcher.specs.declared.Dispatcher.{Dispatcher}
 use Rattle.server.proofs.RangeLaws.{deadline-below}
-use Rattle.server.specs.Server.{idle}
+use Rattle.server.specs.Server.{passedOver}
 use Rattle.server.specs.declared.Server.{Server}
 use Rattle.books.proofs.tree.Winners.{Tree, keyAt, rootOf, Winners, Set, root-least, root-some}
 
--- the deadline and then the number of a server with work; the last number for an idle one
+-- the deadline and then the number of a server; the last number for one that is passed over
 unfoldable pub keyOf : Server → ℕ → ℕ
-keyOf s i = cond (idle s) lastTick (s .deadline .tick * 64 + i)
+keyOf s i = cond (passedOver s) lastTick (s .deadline .tick * 64 + i)
 
-pub key-idle : (s : Server) (i : ℕ) → idle s ≡ true → keyOf s i ≡ lastTick
+pub key-passed-over : (s : Server) (i : ℕ) → passedOver s ≡ true → keyOf s i ≡ lastTick
 unfolding keyOf
-key-idle s i e = rw e
+key-passed-over s i e = rw e
 
-pub key-works : (s : Server) (i : ℕ) → idle s ≡ false → keyOf s i ≡ s .deadline .tick * 64 + i
+pub key-works : (s : Server) (i : ℕ) → passedOver s ≡ false → keyOf s i ≡ s .deadline .tick * 64 + i
 unfolding keyOf
 key-works s i e = rw e
 
@@ -57,9 +57,9 @@ module _ {tree : Tree} {d : Dispatcher} (k : Keyed tree d) (ok : Within d) where
 
   -- where the root is that, nobody has work
   pub root-none : rootOf tree ≡ lastTick → NoneWorks d (d .count)
-  root-none e j b = go (idle (serverAt d j)) refl
+  root-none e j b = go (passedOver (serverAt d j)) refl
     where
-      go : (x : Bool) → idle (serverAt d j) ≡ x → idle (serverAt d j) ≡ true
+      go : (x : Bool) → passedOver (serverAt d j) ≡ x → passedOver (serverAt d j) ≡ true
       go true q = q
       go false q =
           let no : ⊥
@@ -74,31 +74,31 @@ module _ {tree : Tree} {d : Dispatcher} (k : Keyed tree d) (ok : Within d) where
 
   -- and else it is the key of a server with work
   pub root-works : (rootOf tree ≡ lastTick → ⊥)
-      → (i : ℕ) × (i < d .count) × (idle (serverAt d i) ≡ false) × (rootOf tree ≡ serverAt d i .deadline .tick * 64 + i)
+      → (i : ℕ) × (i < d .count) × (passedOver (serverAt d i) ≡ false) × (rootOf tree ≡ serverAt d i .deadline .tick * 64 + i)
   root-works other = go (root-some (k .winners))
     where
       go : (i : ℕ) × (i < tree .leaves) × (rootOf tree ≡ keyAt tree i)
-          → (i : ℕ) × (i < d .count) × (idle (serverAt d i) ≡ false) × (rootOf tree ≡ serverAt d i .deadline .tick * 64 + i)
-      go (i, b, e) = by (idle (serverAt d i)) refl (decLt i (d .count))
+          → (i : ℕ) × (i < d .count) × (passedOver (serverAt d i) ≡ false) × (rootOf tree ≡ serverAt d i .deadline .tick * 64 + i)
+      go (i, b, e) = by (passedOver (serverAt d i)) refl (decLt i (d .count))
         where
-          by : (x : Bool) → idle (serverAt d i) ≡ x → Dec (i < d .count)
-              → (i : ℕ) × (i < d .count) × (idle (serverAt d i) ≡ false) × (rootOf tree ≡ serverAt d i .deadline .tick * 64 + i)
-          by true q c = absurd (other (e ∙ k .keys i b ∙ key-idle (serverAt d i) i q))
+          by : (x : Bool) → passedOver (serverAt d i) ≡ x → Dec (i < d .count)
+              → (i : ℕ) × (i < d .count) × (passedOver (serverAt d i) ≡ false) × (rootOf tree ≡ serverAt d i .deadline .tick * 64 + i)
+          by true q c = absurd (other (e ∙ k .keys i b ∙ key-passed-over (serverAt d i) i q))
           by false q (yes c) = (i, c, q, e ∙ k .keys i b ∙ key-works (serverAt d i) i q)
-          by false q (no c) = not-both (ap idle (ok .behind i (omega arith))) q
+          by false q (no c) = not-both (ap passedOver (ok .behind i (omega arith))) q
 
   -- its number is the remainder by 64, and it is the one that the rules pick
   pub root-picked : (rootOf tree ≡ lastTick → ⊥) → Earliest d (d .count) (rootOf tree % 64)
   root-picked other = go (root-works other)
     where
-      go : (i : ℕ) × (i < d .count) × (idle (serverAt d i) ≡ false) × (rootOf tree ≡ serverAt d i .deadline .tick * 64 + i)
+      go : (i : ℕ) × (i < d .count) × (passedOver (serverAt d i) ≡ false) × (rootOf tree ≡ serverAt d i .deadline .tick * 64 + i)
           → Earliest d (d .count) (rootOf tree % 64)
       go (i, c, q, e) = subst (Earliest d (d .count)) number earliest
         where
           number : i ≡ rootOf tree % 64
           number = omega (arith, ok .count)
 
-          no-later : (j : ℕ) → j < d .count → idle (serverAt d j) ≡ false
+          no-later : (j : ℕ) → j < d .count → passedOver (serverAt d j) ≡ false
               → serverAt d i .deadline .tick * 64 + i ≤ serverAt d j .deadline .tick * 64 + j
           no-later j b v =
               omega (

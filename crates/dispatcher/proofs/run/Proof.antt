@@ -7,6 +7,7 @@ use lib.Dec.{eqb}
 use mathlib.Core.Path.{_≡_, sym, _∙_}
 use native.Mathlib.Decide.{ℕ-discrete}
 use native.Mathlib.Omega.{arith}
+use Rattle.server.proofs.PassedOverLaws.{not-passed-over-busy}
 use Rattle.server.proofs.RangeLaws.{busy-charged}
 use Rattle.server.specs.Ranges.{Ranged}
 use Rattle.steps.proofs.StepLaws.{tick-ranged}
@@ -17,7 +18,7 @@ use Rattle.dispatcher.proofs.run.Tie as tie
 
 -- the server works, and is within its ranges
 works : (c : tie.Start) → serverAt (c .args .d) (c .args .i) .waiting .ticks ≡ 0 → ⊥
-works c = eqb-false _ _ (c .pre .1 .1 .1)
+works c = eqb-false _ _ (not-passed-over-busy (serverAt (c .args .d) (c .args .i)) (c .pre .1 .1 .1))
 
 ranged : (c : tie.Start) → Ranged (c .args .d .clock) (serverAt (c .args .d) (c .args .i))
 ranged c = c .pre .0 .servers _ (c .pre .1 .1 .0)

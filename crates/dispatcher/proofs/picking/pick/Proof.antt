@@ -12,7 +12,7 @@ use Rattle.clock.specs.Clock.{lastTick, moment}
 use Rattle.counting.proofs.TestLaws.{not-both}
 use Rattle.server.specs.declared.Server.{Server}
 use Rattle.server.proofs.RangeLaws.{deadline-fits}
-use Rattle.server.specs.Server.{idle}
+use Rattle.server.specs.Server.{passedOver}
 use Rattle.dispatcher.specs.declared.Dispatcher.{Dispatcher}
 use Rattle.dispatcher.specs.Pick.{serverAt, picked, Earliest, NoneWorks}
 use Rattle.dispatcher.proofs.PickLaws.{none-more, earliest-first, earliest-stays, earliest-moves, earliest-picked, none-picked}
@@ -27,7 +27,7 @@ data Sofar (d : Dispatcher) (k best least : ℕ) : Type 0 where
 
 -- what `due` answers
 abbrev dueOf : Server → Moment
-dueOf s = cond (idle s) (moment lastTick) (s .deadline)
+dueOf s = cond (passedOver s) (moment lastTick) (s .deadline)
 
 -- one more server, by whether it is due before the least
 module _ (d : Dispatcher) (ok : Within d) (k : ℕ) (h : k < d .count) where
@@ -36,18 +36,18 @@ module _ (d : Dispatcher) (ok : Within d) (k : ℕ) (h : k < d .count) where
   before-last j b = let r = ok .servers j b in omega (arith, deadline-fits r (ok .clock), r .budget, r .fits)
 
   takes-over : (best least : ℕ) → Sofar d k best least → dueOf (serverAt d k) .tick < least → Sofar d (suc k) k (dueOf (serverAt d k) .tick)
-  takes-over best least s t = go (idle (serverAt d k)) refl s
+  takes-over best least s t = go (passedOver (serverAt d k)) refl s
     where
-      go : (b : Bool) → idle (serverAt d k) ≡ b → Sofar d k best least → Sofar d (suc k) k (dueOf (serverAt d k) .tick)
+      go : (b : Bool) → passedOver (serverAt d k) ≡ b → Sofar d k best least → Sofar d (suc k) k (dueOf (serverAt d k) .tick)
       go true e (nobody q l none) = let no : ⊥ = omega (arith, rw e at t) in absurd no
       go true e (somebody f l) = let no : ⊥ = omega (arith, rw e at t, before-last best (omega (arith, f .among))) in absurd no
       go false e (nobody q l none) = somebody (earliest-first d k none e) (rw e)
       go false e (somebody f l) = somebody (earliest-moves d k best f e (omega (arith, rw e at t))) (rw e)
 
   stays : (best least : ℕ) → Sofar d k best least → least ≤ dueOf (serverAt d k) .tick → Sofar d (suc k) best least
-  stays best least s t = go (idle (serverAt d k)) refl s
+  stays best least s t = go (passedOver (serverAt d k)) refl s
     where
-      go : (b : Bool) → idle (serverAt d k) ≡ b → Sofar d k best least → Sofar d (suc k) best least
+      go : (b : Bool) → passedOver (serverAt d k) ≡ b → Sofar d k best least → Sofar d (suc k) best least
       go true e (nobody q l none) = nobody q l (none-more d k none e)
       go true e (somebody f l) = somebody (earliest-stays d k best f (λ w. not-both e w)) l
       go false e (nobody q l none) = let no : ⊥ = omega (arith, rw e at t, before-last k h) in absurd no
