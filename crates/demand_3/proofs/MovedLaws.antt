@@ -14,7 +14,7 @@ use Rattle.clock.specs.Clock.{later, ticks}
 use Rattle.clock.specs.declared.Length.{Length}
 use Rattle.dispatcher.proofs.MoveLaws.{tick-ended, tick-idle, tick-ran}
 use Rattle.dispatcher.proofs.PickLaws.{picked-earliest, picked-none}
-use Rattle.dispatcher.specs.Moves.{Answered, Turn, standing, refusing, tooMuchWork, arrival, idled, ran, tick}
+use Rattle.dispatcher.specs.Moves.{Answered, leaving, Turn, refusing, tooMuchWork, arrival, idled, oneLater, ran, tick}
 use Rattle.dispatcher.specs.Pick.{serverAt, picked, Earliest, NoneWorks}
 use Rattle.dispatcher.specs.Within.{Within}
 use Rattle.dispatcher.specs.declared.Dispatcher.{Dispatcher}
@@ -75,7 +75,7 @@ module _ {d : Dispatcher} (ok : Within d) where
   -- A tick by its definition.
   data Way : Type 0 where
     byRefusal : tick d ≡ refusing d 10 → Way
-    byNobody : NoneWorks d (d .count) → tick d ≡ record { answer = gave idled; dispatcher = standing d (later (d .clock) (ticks 1)) (d .servers) } → Way
+    byNobody : NoneWorks d (d .count) → tick d ≡ leaving (gave idled) (oneLater d) → Way
     byServer : (p : ℕ) → Earliest d (d .count) p → tick d ≡ ran d p → Way
 
   way : Way

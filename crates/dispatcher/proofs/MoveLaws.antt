@@ -15,13 +15,13 @@ use Rattle.clock.specs.declared.Length.{Length}
 use Rattle.refusal.specs.Refusals.{gave, accepted}
 use Rattle.server.proofs.PassedOverLaws.{not-passed-over-busy}
 use Rattle.server.proofs.RangeLaws.{ranged-later, arrived-ranged, served-ranged}
-use Rattle.server.specs.Moves.{arrived, served}
+use Rattle.server.specs.Moves.{arrived, spendsLast, served}
 use Rattle.server.specs.Ranges.{Ranged}
 use Rattle.server.specs.Server.{vacant, passedOver}
 use Rattle.server.specs.declared.Server.{Server}
 use Rattle.sizes.specs.Sizes.{clockEnd, mostWaiting}
 use Rattle.dispatcher.specs.declared.Dispatcher.{Dispatcher}
-use Rattle.dispatcher.specs.Moves.{Answered, standing, refusing, tooMuchWork, arrival, idled, ran, tick}
+use Rattle.dispatcher.specs.Moves.{Answered, leaving, standing, withServer, refusing, tooMuchWork, arrival, idled, ranOne, oneLater, ran, tick}
 use Rattle.dispatcher.specs.Pick.{serverAt, picked}
 use Rattle.dispatcher.proofs.PickLaws.{picked-earliest}
 use Rattle.dispatcher.specs.Within.{Within}
@@ -40,7 +40,7 @@ module _ (d : Dispatcher) where
   pub arrival-whole : (i : ℕ) (cost : Length) → faultyArrival (d .count) i cost ≡ false
       → serverAt d i .waiting .ticks + cost .ticks ≤ mostWaiting
       → arrival d i cost
-      ≡ record { answer = accepted; dispatcher = standing d (d .clock) (set (d .servers) i (arrived (serverAt d i) (d .clock) cost)) }
+      ≡ leaving accepted (withServer d i (arrived (serverAt d i) (d .clock) cost))
   unfolding arrival
   arrival-whole i cost f h = rw (f, le-ltb _ _ h)
 
@@ -53,15 +53,30 @@ module _ (d : Dispatcher) where
   tick-ran h p = rw (ne-eqb _ _ h, lt-ltb _ _ p)
 
   pub tick-idle : (d .clock .tick ≡ clockEnd → ⊥) → d .count ≤ picked d
-      → tick d ≡ record { answer = gave idled; dispatcher = standing d (later (d .clock) (ticks 1)) (d .servers) }
+      → tick d ≡ leaving (gave idled) (oneLater d)
   unfolding tick
   tick-idle h p = rw (ne-eqb _ _ h, le-ltb _ _ p)
+
+-- What each alters: a step at server i its place, step 4 the clock, and a tick that is given to server i those two.
+module _ (d : Dispatcher) where
+  pub with-server-is : (i : ℕ) (s : Server) → withServer d i s ≡ standing d (d .clock) (set (d .servers) i s)
+  with-server-is i s = refl
+
+  pub one-later-is : oneLater d ≡ standing d (later (d .clock) (ticks 1)) (d .servers)
+  one-later-is = refl
+
+  pub ran-is : (i : ℕ)
+      → ran d i
+      ≡ leaving (gave (ranOne i (serverAt d i .deadline) (spendsLast (serverAt d i))))
+      (standing d (later (d .clock) (ticks 1)) (set (d .servers) i (served (serverAt d i))))
+  unfolding ran
+  ran-is i = refl
 
 -- Every move keeps the ranges.
 
 -- with another server at a place that holds one
 pub server-within : {d : Dispatcher} → Within d → (i : ℕ) → i < d .count → (s : Server) → Ranged (d .clock) s
-    → Within (standing d (d .clock) (set (d .servers) i s))
+    → Within (withServer d i s)
 server-within {d} ok i h s r =
     record {
       frame-from = ok .frame-from;
@@ -76,13 +91,13 @@ server-within {d} ok i h s r =
     here : i < length (d .servers)
     here = omega (arith, ok .places, ok .count)
 
-    at : (j : ℕ) → j < d .count → Dec (j ≡ i) → Ranged (d .clock) (getD (standing d (d .clock) (set (d .servers) i s) .servers) j vacant)
-    at j b (yes q) = subst⁻¹ (λ (k : ℕ). Ranged (d .clock) (getD (standing d (d .clock) (set (d .servers) i s) .servers) k vacant)) q
+    at : (j : ℕ) → j < d .count → Dec (j ≡ i) → Ranged (d .clock) (getD (withServer d i s .servers) j vacant)
+    at j b (yes q) = subst⁻¹ (λ (k : ℕ). Ranged (d .clock) (getD (withServer d i s .servers) k vacant)) q
         (subst⁻¹ (Ranged (d .clock)) (getD-set-same (d .servers) i s vacant here) r)
     at j b (no q) = subst⁻¹ (Ranged (d .clock)) (getD-set-other (d .servers) i j s vacant q) (ok .servers j b)
 
 -- one tick later, before the clock's end
-pub later-within : {d : Dispatcher} → Within d → d .clock .tick < clockEnd → Within (standing d (later (d .clock) (ticks 1)) (d .servers))
+pub later-within : {d : Dispatcher} → Within d → d .clock .tick < clockEnd → Within (oneLater d)
 later-within {d} ok h =
     record {
       frame-from = ok .frame-from;

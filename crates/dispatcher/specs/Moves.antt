@@ -32,6 +32,10 @@ leaving said d = record { answer = said; dispatcher = d }
 abbrev pub standing : Dispatcher → Moment → List Server → Dispatcher
 standing d t servers = record { frame = d .frame; count = d .count; clock = t; servers = servers }
 
+-- the dispatcher with another server at place i
+abbrev pub withServer : Dispatcher → ℕ → Server → Dispatcher
+withServer d i s = standing d (d .clock) (set (d .servers) i s)
+
 -- a refusal "changes no dispatcher"; its place is 0 in both moves
 abbrev pub refusing : {A : Type 0} → Dispatcher → ℕ → Answered A
 refusing d number = leaving (refused number 0) d
@@ -47,7 +51,7 @@ unfoldable pub arrival : Dispatcher → ℕ → Length → Answered (Unit {0})
 arrival d i cost =
     cond (faultyArrival (d .count) i cost) (refusing d 6)
     (cond (tooMuchWork d i cost) (refusing d 11)
-    (leaving accepted (standing d (d .clock) (set (d .servers) i (arrived (serverAt d i) (d .clock) cost)))))
+    (leaving accepted (withServer d i (arrived (serverAt d i) (d .clock) cost))))
 
 -- what the struct that an arrival answers says
 abbrev pub arrivalSays : Arrived → Answered (Unit {0})
@@ -60,11 +64,15 @@ pub data Turn : Type 0 where
   idled : Turn
   ranOne : (server : ℕ) (deadline : Moment) (postponed : Bool) → Turn
 
--- server i runs: step 3 at it, then step 4, "The clock is t + 1". The deadline is "the one in force before step 3".
+-- Step 4: "The clock is t + 1."
+abbrev pub oneLater : Dispatcher → Dispatcher
+oneLater d = standing d (later (d .clock) (ticks 1)) (d .servers)
+
+-- server i runs: step 3 at it, then step 4. The deadline is "the one in force before step 3".
 unfoldable pub ran : Dispatcher → ℕ → Answered Turn
 ran d i =
     leaving (gave (ranOne i (serverAt d i .deadline) (spendsLast (serverAt d i))))
-    (standing d (later (d .clock) (ticks 1)) (set (d .servers) i (served (serverAt d i))))
+    (oneLater (withServer d i (served (serverAt d i))))
 
 -- 10: "a live tick when the clock stands at 2,419,200". Otherwise the server that step 2 picks runs; "If there is none, the tick is
 -- idle", and only step 4 is left.
@@ -72,7 +80,7 @@ unfoldable pub tick : Dispatcher → Answered Turn
 tick d =
     cond (eqb (d .clock .tick) clockEnd) (refusing d 10)
     (cond (ltb (picked d) (d .count)) (ran d (picked d))
-    (leaving (gave idled) (standing d (later (d .clock) (ticks 1)) (d .servers))))
+    (leaving (gave idled) (oneLater d)))
 
 -- what each case of a tick's answer says
 abbrev pub turnOf : TickAnswer → Said Turn

@@ -9,8 +9,7 @@ ghost use Prim.Native.Nat.{_<_};
 ghost use mathlib.Core.Bool.{false};
 ghost use Rattle.server.specs.Server.{passedOver};
 ghost use Rattle.sizes.specs.Sizes.{clockEnd};
-ghost use Rattle.dispatcher.specs.Moves.{leaving, standing, arrivalSays, arrival, turnOf, tickSays, tick, ran};
-ghost use Rattle.clock.specs.Clock.{later, ticks};
+ghost use Rattle.dispatcher.specs.Moves.{leaving, oneLater, arrivalSays, arrival, turnOf, tickSays, tick, ran};
 ghost use Rattle.dispatcher.specs.Pick.{serverAt};
 ghost use Rattle.dispatcher.specs.Within.{Within};
 use clock::Length;
@@ -116,7 +115,7 @@ fn run(d: Dispatcher, i: usize) -> Ticked
 // Step 4 of a moment: its clock goes on, and the tick is answered.
 fn pass(mut d: Dispatcher, answer: TickAnswer) -> Ticked
     requires { ⌜ d .clock .tick < clockEnd ⌝ }
-    ensures { λ r. ⌜ tickSays r ≡ leaving (turnOf answer) (standing d (later (d .clock) (ticks 1)) (d .servers)) ⌝ }
+    ensures { λ r. ⌜ tickSays r ≡ leaving (turnOf answer) (oneLater d) ⌝ }
 {
     let later = clock::later(d.clock, Length { ticks: 1 });
     d.clock = later;

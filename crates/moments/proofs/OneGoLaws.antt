@@ -10,10 +10,10 @@ use mathlib.Core.Path.{_≡_, refl, sym, _∙_, ap, ap₂, subst, subst⁻¹}
 use native.Mathlib.Decide.{ℕ-discrete}
 use native.Mathlib.Nat.{add-suc, add-zero, sub-zero}
 use native.Mathlib.Omega.{arith}
-use Rattle.clock.specs.Clock.{later, moment, ticks}
+use Rattle.clock.specs.Clock.{moment, ticks}
 use Rattle.dispatcher.proofs.MoveLaws.{tick-ran, tick-idle}
 use Rattle.dispatcher.proofs.PickLaws.{earliest-picked, none-picked}
-use Rattle.dispatcher.specs.Moves.{Answered, leaving, standing, Turn, idled, ranOne, ran, tick}
+use Rattle.dispatcher.specs.Moves.{Answered, leaving, standing, withServer, Turn, idled, ranOne, oneLater, ran, tick}
 use Rattle.dispatcher.specs.Pick.{serverAt, picked, Earliest, NoneWorks}
 use Rattle.dispatcher.specs.Within.{Within}
 use Rattle.dispatcher.specs.declared.Dispatcher.{Dispatcher}
@@ -143,7 +143,7 @@ module _ (d : Dispatcher) (i : ℕ) (ok : Within d) (p : Earliest d (d .count) i
           ap (λ (s : Server). gave (ranOne i (s .deadline) (spent (oneTickLess s)))) (own k c)
           ∙ ap (λ (s : Server). gave (ranOne i (s .deadline) (spent s))) (one-less (serverAt d i) k)
 
-      moved : standing (ranFor d i k) (later (ranFor d i k .clock) (ticks 1)) (set (ranFor d i k .servers) i (served (serverAt (ranFor d i k) i))) ≡ ranFor d i (suc k)
+      moved : oneLater (withServer (ranFor d i k) i (served (serverAt (ranFor d i k) i))) ≡ ranFor d i (suc k)
       moved =
           ap₂ (λ (t : ℕ) (l : List Server). standing d (moment t) l)
           clock-more

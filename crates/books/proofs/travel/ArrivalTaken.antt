@@ -1,6 +1,5 @@
 -- The arrivals of a moment are taken, one after the other.
 use Prim.Native.Nat.{ℕ, suc, _+_, _≤_, _<_}
-use lib.ListN.{set}
 use lib.Seq.{getD-set-same, getD-set-other}
 use mathlib.Core.Path.{_≡_, refl, sym, _∙_, ap, subst⁻¹}
 use native.Mathlib.Decide.{decLt}
@@ -9,7 +8,7 @@ use native.Mathlib.Omega.{arith}
 use Rattle.arrival.specs.declared.Arrival.{Arrival}
 use Rattle.clock.specs.declared.Length.{Length}
 use Rattle.clock.specs.declared.Moment.{Moment}
-use Rattle.dispatcher.specs.Moves.{standing}
+use Rattle.dispatcher.specs.Moves.{withServer}
 use Rattle.dispatcher.specs.Pick.{serverAt}
 use Rattle.dispatcher.specs.declared.Dispatcher.{Dispatcher}
 use Rattle.judgement.proofs.FitLaws.{Fit}
@@ -38,9 +37,9 @@ pub record Takes (w : Work) (t j : ℕ) (d : Dispatcher) (a : Arrival) : Type 0 
   pub place : a .server < 64
   pub may : {tree : Tree} → Keyed tree d → MayTake tree (a .server) (serverAt d (a .server)) (d .clock) (a .cost)
   pub stands : (s : Server) → s ≡ arrived (serverAt d (a .server)) (d .clock) (a .cost)
-      → Stands w t (suc j) (standing d (d .clock) (set (d .servers) (a .server) s))
+      → Stands w t (suc j) (withServer d (a .server) s)
   pub keyed : {tree after : Tree} (s : Server) → Keyed tree d → Set tree after (a .server) (keyOf s (a .server))
-      → Keyed after (standing d (d .clock) (set (d .servers) (a .server) s))
+      → Keyed after (withServer d (a .server) s)
 
 module _ {w : Work} {places t j : ℕ} {d : Dispatcher} (fit : Fit w places) (s : Stands w t j d) (end : t ≤ clockEnd)
     (more : j < w .arrivals) (due : w .arrival j .moment .tick ≤ t) (a : Arrival) (read : a ≡ w .arrival j) where
@@ -65,8 +64,8 @@ module _ {w : Work} {places t j : ℕ} {d : Dispatcher} (fit : Fit w places) (s 
             };
         stands = λ server is.
             subst⁻¹ (Stands w t (suc j))
-            (ap (λ (x : Server). standing d (d .clock) (set (d .servers) (a .server) x)) is
-            ∙ ap (λ (x : Arrival). standing d (d .clock) (set (d .servers) (x .server) (arrived (serverAt d (x .server)) (d .clock) (x .cost)))) read
+            (ap (withServer d (a .server)) is
+            ∙ ap (λ (x : Arrival). withServer d (x .server) (arrived (serverAt d (x .server)) (d .clock) (x .cost))) read
             ∙ sym (accepted-as fit s end more now))
             (stands-arrival fit s end more now);
         keyed = λ {tree} {after} server of-d key-set.

@@ -1,7 +1,7 @@
 -- The dispatcher of a run that stands at moment t with the first j arrivals taken.
 use Prim.Native.Nat.{ℕ, suc, _+_, _*_, _≤_, _<_}
 use lib.Dec.{eqb, ltb}
-use lib.ListN.{List·getD-eq-default, set}
+use lib.ListN.{List·getD-eq-default}
 use lib.Seq.{getD-set-same, getD-set-other}
 use mathlib.Core.Bool.{Bool, true, false, cond}
 use mathlib.Core.Path.{_≡_, refl, sym, _∙_, ap, subst⁻¹}
@@ -17,7 +17,7 @@ use Rattle.counting.proofs.PlacesLaws.{getD-places, length-places}
 use Rattle.counting.proofs.SumLaws.{sum-le}
 use Rattle.counting.specs.Places.{places}
 use Rattle.dispatcher.proofs.MoveLaws.{arrival-whole}
-use Rattle.dispatcher.specs.Moves.{Answered, leaving, standing, arrival}
+use Rattle.dispatcher.specs.Moves.{Answered, leaving, withServer, arrival}
 use Rattle.dispatcher.specs.Pick.{serverAt}
 use Rattle.dispatcher.specs.Start.{startAt, atStart}
 use Rattle.dispatcher.specs.Within.{Within}
@@ -113,8 +113,7 @@ module _ {w : Work} {places : ℕ} (fit : Fit w places) where
 
       pub accepted-whole : arrival d (w .arrival j .server) (w .arrival j .cost)
           ≡ leaving accepted
-          (standing d (d .clock)
-          (set (d .servers) (w .arrival j .server) (arrived (serverAt d (w .arrival j .server)) (d .clock) (w .arrival j .cost))))
+          (withServer d (w .arrival j .server) (arrived (serverAt d (w .arrival j .server)) (d .clock) (w .arrival j .cost)))
       accepted-whole =
           arrival-whole d (w .arrival j .server) (w .arrival j .cost)
           (subst⁻¹ (λ (n : ℕ). faultyArrival n (w .arrival j .server) (w .arrival j .cost) ≡ false) stands-count
@@ -122,7 +121,7 @@ module _ {w : Work} {places : ℕ} (fit : Fit w places) where
           room
 
       pub accepted-as : arrival d (w .arrival j .server) (w .arrival j .cost) .dispatcher
-          ≡ standing d (d .clock) (set (d .servers) (w .arrival j .server) (arrived (serverAt d (w .arrival j .server)) (d .clock) (w .arrival j .cost)))
+          ≡ withServer d (w .arrival j .server) (arrived (serverAt d (w .arrival j .server)) (d .clock) (w .arrival j .cost))
       accepted-as = ap (λ (m : Answered (Unit {0})). m .dispatcher) accepted-whole
 
       arrival-other : (k : ℕ) → (k ≡ w .arrival j .server → ⊥)
