@@ -21,8 +21,7 @@ use Rattle.counting.proofs.CountLaws.{count-same}
 use Rattle.counting.proofs.FirstLaws.{first-same}
 use Rattle.counting.proofs.PlacesLaws.{places-same}
 use Rattle.counting.proofs.SumLaws.{sum-same}
-use Rattle.counting.specs.Count.{count}
-use Rattle.dispatcher.specs.Moves.{Turn, arrival, tick}
+use Rattle.dispatcher.specs.Moves.{arrival, tick}
 use Rattle.dispatcher.specs.Pick.{serverAt}
 use Rattle.dispatcher.specs.Start.{atStart, startAt}
 use Rattle.dispatcher.specs.declared.Dispatcher.{Dispatcher}
@@ -106,14 +105,13 @@ module _ (H : Length) (N : Moment) (n m : ℕ) {b b′ : ℕ → Booking} {a a�
       ap (λ (d : Dispatcher). tick (taken w m d) .dispatcher) (at-same t)
       ∙ ap (λ (d : Dispatcher). tick d .dispatcher) (taken-same m (omega arith) (atMoment v t))
 
-  turn-same : (t : ℕ) → turn w t ≡ turn v t
-  unfolding turn ready
-  turn-same t =
-      ap (λ (d : Dispatcher). tick (taken w m d) .answer) (at-same t)
-      ∙ ap (λ (d : Dispatcher). tick d .answer) (taken-same m (omega arith) (atMoment v t))
+  ready-same : (t : ℕ) → ready w t ≡ ready v t
+  unfolding ready
+  ready-same t = ap (taken w m) (at-same t) ∙ taken-same m (omega arith) (atMoment v t)
 
-  turns-same : turn w ≡ turn v
-  turns-same = fun-ext turn-same
+  turn-same : (t : ℕ) → turn w t ≡ turn v t
+  unfolding turn
+  turn-same t = ap (λ (d : Dispatcher). tick d .answer) (ready-same t)
 
   pub history-same : history w ≡ history v
   unfolding history
@@ -164,7 +162,10 @@ module _ (H : Length) (N : Moment) (n m : ℕ) {b b′ : ℕ → Booking} {a a�
 
   postponed-same : (i : ℕ) → postponedBy w i (N .tick) ≡ postponedBy v i (N .tick)
   unfolding postponedBy
-  postponed-same i = ap (λ (f : ℕ → Said Turn). count (N .tick) (λ u. postpones i (f u))) turns-same
+  postponed-same i =
+      count-same (N .tick) (postpones w i) (postpones v i)
+      (λ u l.
+      ap₂ (λ (d e : Dispatcher). ltb (serverAt d i .deadline .tick) (serverAt e i .deadline .tick)) (ready-same u) (at-same (suc u)))
 
   pub summary-same : (i : ℕ) → summaryOf w i ≡ summaryOf v i
   unfolding summaryOf finishedOf responses

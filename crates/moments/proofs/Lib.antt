@@ -3,3 +3,4 @@ pub mod MomentLaws
 pub mod OneGo
 pub mod OneGoLaws
 pub mod PostponedLaws
+pub mod ToldLaws

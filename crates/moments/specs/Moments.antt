@@ -1,8 +1,8 @@
 -- The run of a work (document 01, "One moment of the clock"): at each moment the arrivals of that moment are taken in list order, and
 -- then the tick is given. Both are the live dispatcher's own moves.
 use Prim.Native.Nat.{ℕ, zero, suc}
-use lib.Dec.{eqb}
-use mathlib.Core.Bool.{Bool, false, cond, _&&_}
+use lib.Dec.{eqb, ltb}
+use mathlib.Core.Bool.{Bool, cond}
 use Rattle.counting.specs.Count.{count}
 use Rattle.dispatcher.specs.Moves.{arrival, tick, Turn, idled, ranOne}
 use Rattle.dispatcher.specs.Pick.{serverAt}
@@ -49,15 +49,13 @@ choiceOf (gave (ranOne i deadline postponed)) = given i deadline
 unfoldable pub history : Work → History
 history w t = choiceOf (turn w t)
 
--- whether a tick postponed server i
-abbrev pub postpones : ℕ → Said Turn → Bool
-postpones i (refused number place) = false
-postpones i (gave idled) = false
-postpones i (gave (ranOne j deadline postponed)) = eqb i j && postponed
+-- "d grows by T .. That is one postponement": whether the tick of moment u leaves server i a later deadline
+abbrev pub postpones : Work → ℕ → ℕ → Bool
+postpones w i u = ltb (serverAt (ready w u) i .deadline .tick) (serverAt (atMoment w (suc u)) i .deadline .tick)
 
 -- the postponements of server i before moment t
 unfoldable pub postponedBy : Work → ℕ → ℕ → ℕ
-postponedBy w i t = count t (λ u. postpones i (turn w u))
+postponedBy w i t = count t (postpones w i)
 
 -- the work of server i that waits at moment t, "looked at before the arrivals" of t
 unfoldable pub waitingAt : Work → ℕ → ℕ → ℕ

@@ -1,7 +1,7 @@
 -- The moves of one server case by case, so that no proof above has to open them.
 use Prim.Native.Nat.{_+_, _-_, _*_, _≤_, _<_}
-use borrow.Author.Tests.{leb-true, leb-false, le-leb, eq-eqb, ne-eqb}
-use lib.Dec.{eqb, leb}
+use borrow.Author.Tests.{leb-true, leb-false, le-leb, lt-ltb, le-ltb, eq-eqb, ne-eqb}
+use lib.Dec.{eqb, leb, ltb}
 use mathlib.Core.Bool.{Bool, true, false, cond, _||_}
 use mathlib.Core.Path.{_≡_, refl}
 use native.Mathlib.Omega.{arith}
@@ -94,3 +94,12 @@ served-last s h = rw (eq-eqb _ _ h)
 pub served-more : (s : Server) → (s .remaining .ticks - 1 ≡ 0 → ⊥) → served s ≡ oneTickLess s
 unfolding served
 served-more s h = rw (ne-eqb _ _ h)
+
+-- "d grows by T", which is no length of 0, where the tick was the last of the budget, and nowhere else
+pub served-grows : (s : Server) → 1 ≤ s .period .ticks → ltb (s .deadline .tick) (served s .deadline .tick) ≡ spendsLast s
+unfolding served
+served-grows s some = go (spendsLast s)
+  where
+    go : (e : Bool) → ltb (s .deadline .tick) ((cond e (postponed (oneTickLess s)) (oneTickLess s)) .deadline .tick) ≡ e
+    go true = lt-ltb (s .deadline .tick) (s .deadline .tick + s .period .ticks) (omega arith)
+    go false = le-ltb (s .deadline .tick) (s .deadline .tick) (omega arith)

@@ -62,7 +62,7 @@ module _ {r : Run} {places t j : ℕ} {d : Dispatcher} {b : Book} (fit : Fit (r 
     idle-counts =
         record {
           places = x .counts .places;
-          each = λ i l. x .counts .each i l ∙ sym (postponed-idle w t (suc k) (idle-turns fit s k end later none) i);
+          each = λ i l. x .counts .each i l ∙ sym (postponed-idle w t (suc k) (idle-turns fit s k end later none) fit i);
         }
 
     abbrev waited : SegmentBook
@@ -161,6 +161,7 @@ module _ {r : Run} {places t j : ℕ} {d : Dispatcher} {b : Book} (fit : Fit (r 
         ∙ sym
         (postponed-other w t i k (serverAt d i .remaining .ticks) (serverAt d i .deadline)
         (event-turns fit s k end later i p budget its-work)
+        fit
         n
         other)
 
@@ -172,12 +173,14 @@ module _ {r : Run} {places t j : ℕ} {d : Dispatcher} {b : Book} (fit : Fit (r 
         go true e =
             postponed-own w t i k (serverAt d i .remaining .ticks) (serverAt d i .deadline)
             (event-turns fit s k end later i p budget its-work)
+            fit
             (eqb-true _ _ e)
             ∙ ap (λ (n : ℕ). n + 1) (sym (x .counts .each i among))
         go false e =
             let other : suc k ≡ serverAt d i .remaining .ticks → ⊥ = eqb-false _ _ e in
             postponed-not w t i k (serverAt d i .remaining .ticks) (serverAt d i .deadline)
             (event-turns fit s k end later i p budget its-work)
+            fit
             (omega arith)
             i
             ∙ sym (x .counts .each i among)
