@@ -2,7 +2,7 @@
 -- ticks that it gets are paid from what it could get at the moment when it was idle. Of admission only that each booking is sound enters
 -- here, and of the pick only that the server has work.
 use Prim.Native.Nat.{ℕ, _+_, _*_, _≤_, _<_}
-use borrow.Author.Tests.{leb-true, leb-false, eqb-false}
+use borrow.Author.Tests.{leb-true, leb-false}
 use lib.Dec.{leb}
 use mathlib.Core.Bool.{Bool, true, false, cond}
 use mathlib.Core.List.{List, [], _∷_}
@@ -17,7 +17,7 @@ use Rattle.booking.specs.Share.{share}
 use Rattle.clock.specs.Clock.{ticks, until}
 use Rattle.clock.specs.declared.Length.{Length}
 use Rattle.clock.specs.declared.Moment.{Moment}
-use Rattle.dispatcher.proofs.PickLaws.{earliest-busy}
+use Rattle.dispatcher.proofs.PickLaws.{earliest-busy, earliest-charged}
 use Rattle.dispatcher.specs.Course.{Move, anArrival, aTick}
 use Rattle.dispatcher.specs.Moves.{arrival, tick}
 use Rattle.dispatcher.specs.Pick.{serverAt, Earliest}
@@ -26,7 +26,6 @@ use Rattle.moments.proofs.MomentLaws.{arrival-keeps}
 use Rattle.moments.specs.Moments.{choiceOf}
 use Rattle.server.proofs.Potential.{potential}
 use Rattle.server.proofs.PotentialLaws.{Booked, arrived-potential, later-potential, served-potential, served-beyond, rests-potential}
-use Rattle.server.proofs.RangeLaws.{busy-charged}
 use Rattle.server.specs.Moves.{served}
 use Rattle.server.specs.Server.{idle}
 use Rattle.demand_3.specs.Got.{isUnder, got, WithinBandwidth}
@@ -63,7 +62,7 @@ module _ {H : Length} {t : Table} (admitted : Admitted H t) (b : Moment) where
           → potential H (next .clock) b (served (serverAt d i)) + cond u (H .ticks) 0 ≤ canGet H b d i
       own first true u =
           served-potential H booked b (d .clock) (next .clock) (earliest-busy first)
-          (busy-charged (ok .within .servers i (first .among)) (eqb-false _ _ (earliest-busy first)))
+          (earliest-charged (ok .within) first)
           (leb-true _ _ u)
       own first false u = rw (served-beyond H booked b (next .clock) (leb-false _ _ u)) (omega arith)
 

@@ -12,6 +12,7 @@ use native.Mathlib.Omega.{arith}
 use Rattle.clock.specs.Clock.{moment}
 use Rattle.clock.specs.declared.Moment.{Moment}
 use Rattle.counting.proofs.CountLaws.{count-empty}
+use Rattle.dispatcher.proofs.PickLaws.{earliest-busy}
 use Rattle.dispatcher.specs.Course.{Move, after}
 use Rattle.dispatcher.specs.Moves.{Turn, idled, ranOne, tick}
 use Rattle.dispatcher.specs.Pick.{serverAt, Earliest}
@@ -136,7 +137,7 @@ module _ {w : Work} {places : ℕ} (fit : Fit w places) where
   pub picked-in-time : (i a : ℕ) → a < w .horizon .tick → Earliest (ready w a) (ready w a .count) i
       → a + 1 ≤ serverAt (ready w a) i .deadline .tick
   picked-in-time i a h first =
-      omega (arith, ready-ahead i a (omega (arith, first .among, ready-count a (omega arith))) (omega arith) (first .works))
+      omega (arith, ready-ahead i a (omega (arith, first .among, ready-count a (omega arith))) (omega arith) (earliest-busy first))
 
   in-time : (i a : ℕ) (deadline : Moment) → a < w .horizon .tick → (said : Said Turn) → turn w a ≡ said
       → choiceOf said ≡ given i deadline → a + 1 ≤ deadline .tick

@@ -13,17 +13,16 @@ use Rattle.arrival.specs.Arrival.{faultyArrival}
 use Rattle.clock.specs.Clock.{later, ticks}
 use Rattle.clock.specs.declared.Length.{Length}
 use Rattle.refusal.specs.Refusals.{gave, accepted}
-use Rattle.server.proofs.PassedOverLaws.{not-passed-over-busy}
 use Rattle.server.proofs.RangeLaws.{ranged-later, arrived-ranged, served-ranged}
 use Rattle.server.specs.Moves.{arrived, spendsLast, served}
 use Rattle.server.specs.Ranges.{Ranged}
-use Rattle.server.specs.Server.{vacant, passedOver}
+use Rattle.server.specs.Server.{vacant}
 use Rattle.server.specs.declared.Server.{Server}
 use Rattle.sizes.specs.Sizes.{clockEnd, mostWaiting}
 use Rattle.dispatcher.specs.declared.Dispatcher.{Dispatcher}
 use Rattle.dispatcher.specs.Moves.{Answered, leaving, standing, withServer, refusing, tooMuchWork, arrival, idled, ranOne, oneLater, ran, tick}
-use Rattle.dispatcher.specs.Pick.{serverAt, picked}
-use Rattle.dispatcher.proofs.PickLaws.{picked-earliest}
+use Rattle.dispatcher.specs.Pick.{serverAt, picked, Earliest}
+use Rattle.dispatcher.proofs.PickLaws.{earliest-busy, picked-earliest}
 use Rattle.dispatcher.specs.Within.{Within}
 
 -- An arrival and a tick case by case.
@@ -125,13 +124,13 @@ arrival-within {d} ok i cost = go (faultyArrival (d .count) i cost) refl (tooMuc
         (server-within ok i (known f) (arrived (serverAt d i) (d .clock) cost)
         (arrived-ranged (serverAt d i) (d .clock) cost (ok .servers i (known f)) (ltb-false _ _ e)))
 
--- a tick that is given to a server that is not passed over
-pub ran-within : {d : Dispatcher} → Within d → d .clock .tick < clockEnd → (i : ℕ) → i < d .count
-    → passedOver (serverAt d i) ≡ false → Within (ran d i .dispatcher)
+-- a tick that is given to the server with the earliest deadline
+pub ran-within : {d : Dispatcher} → Within d → d .clock .tick < clockEnd → (i : ℕ) → Earliest d (d .count) i
+    → Within (ran d i .dispatcher)
 unfolding ran
-ran-within {d} ok h i b w =
-    server-within (later-within ok h) i b (served (serverAt d i))
-    (served-ranged (serverAt d i) (d .clock) (ok .servers i b) (eqb-false _ _ (not-passed-over-busy (serverAt d i) w)))
+ran-within {d} ok h i e =
+    server-within (later-within ok h) i (e .among) (served (serverAt d i))
+    (served-ranged (serverAt d i) (d .clock) (ok .servers i (e .among)) (eqb-false _ _ (earliest-busy e)))
 
 -- a clock within its range that does not stand at its end has a tick left
 pub before-end : {d : Dispatcher} → Within d → (d .clock .tick ≡ clockEnd → ⊥) → d .clock .tick < clockEnd
@@ -146,7 +145,7 @@ tick-within {d} ok = go (eqb (d .clock .tick) clockEnd) refl (ltb (picked d) (d 
     go true e p q = rw e ok
     go false e true q =
         rw (e, q)
-        (ran-within ok (before-end ok (eqb-false _ _ e)) (picked d) (ltb-true _ _ q) (picked-earliest d (ltb-true _ _ q) .works))
+        (ran-within ok (before-end ok (eqb-false _ _ e)) (picked d) (picked-earliest d (ltb-true _ _ q)))
     go false e false q = rw (e, q) (later-within ok (before-end ok (eqb-false _ _ e)))
 
 -- what a move hands back, being what its definition gives, is within them

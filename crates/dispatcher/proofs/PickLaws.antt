@@ -1,6 +1,6 @@
 -- The pick is the earliest deadline with ties to the lower number, said as document 01 says it, and nobody where nobody has work.
 use Prim.Native.Nat.{ℕ, zero, suc, _≤_, _<_}
-use borrow.Author.Tests.{le-leb, lt-leb}
+use borrow.Author.Tests.{eqb-false, le-leb, lt-leb}
 use lib.Dec.{leb}
 use mathlib.Core.Bool.{Bool, true, false, _||_}
 use mathlib.Core.Logic.{_⊎_, inl, inr}
@@ -12,9 +12,11 @@ use Rattle.counting.proofs.BelowLaws.{below-suc, every-from, every-fails}
 use Rattle.counting.proofs.FirstLaws.{first-is, first-none}
 use Rattle.counting.proofs.TestLaws.{not-both}
 use Rattle.server.proofs.PassedOverLaws.{not-passed-over-busy}
+use Rattle.server.proofs.RangeLaws.{busy-charged}
 use Rattle.server.specs.Server.{idle, passedOver}
 use Rattle.dispatcher.specs.declared.Dispatcher.{Dispatcher}
 use Rattle.dispatcher.specs.Pick.{serverAt, mayRun, picked, Earliest, NoneWorks}
+use Rattle.dispatcher.specs.Within.{Within}
 
 abbrev deadlineAt : Dispatcher → ℕ → ℕ
 deadlineAt d i = serverAt d i .deadline .tick
@@ -73,6 +75,10 @@ module _ (d : Dispatcher) (k : ℕ) where
 -- the earliest has work
 pub earliest-busy : {d : Dispatcher} {k i : ℕ} → Earliest d k i → idle (serverAt d i) ≡ false
 earliest-busy {d} {k} {i} e = not-passed-over-busy (serverAt d i) (e .works)
+
+-- and within the ranges it has budget left
+pub earliest-charged : {d : Dispatcher} {i : ℕ} → Within d → Earliest d (d .count) i → 1 ≤ serverAt d i .remaining .ticks
+earliest-charged {d} {i} ok e = busy-charged (ok .servers i (e .among)) (eqb-false _ _ (earliest-busy e))
 
 -- so a lower number with work has a later deadline
 earliest-lowest : {d : Dispatcher} {k i : ℕ} → Earliest d k i → (j : ℕ) → j < i → passedOver (serverAt d j) ≡ false

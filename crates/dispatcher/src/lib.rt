@@ -6,11 +6,9 @@ mod places;
 
 ghost use mathlib.Core.Path.{_≡_};
 ghost use Prim.Native.Nat.{_<_};
-ghost use mathlib.Core.Bool.{false};
-ghost use Rattle.server.specs.Server.{passedOver};
 ghost use Rattle.sizes.specs.Sizes.{clockEnd};
 ghost use Rattle.dispatcher.specs.Moves.{leaving, oneLater, arrivalSays, arrival, turnOf, tickSays, tick, ran};
-ghost use Rattle.dispatcher.specs.Pick.{serverAt};
+ghost use Rattle.dispatcher.specs.Pick.{Earliest};
 ghost use Rattle.dispatcher.specs.Within.{Within};
 use clock::Length;
 use clock::Moment;
@@ -97,8 +95,7 @@ pub fn tick(d: Dispatcher) -> Ticked
 fn run(d: Dispatcher, i: usize) -> Ticked
     requires { ⌜ Within d ⌝ }
     requires { ⌜ d .clock .tick < clockEnd ⌝ }
-    requires { ⌜ i < d .count ⌝ }
-    requires { ⌜ passedOver (serverAt d i) ≡ false ⌝ }
+    requires { ⌜ Earliest d (d .count) i ⌝ }
     ensures { λ r. ⌜ tickSays r ≡ ran d i ⌝ }
 {
     let s = places::server_at(d, i);

@@ -10,7 +10,7 @@ use Rattle.clock.specs.Clock.{lastTick, until}
 use Rattle.clock.specs.declared.Length.{Length}
 use Rattle.clock.specs.declared.Moment.{Moment}
 use Rattle.counting.proofs.TestLaws.{none-of-three, or-true}
-use Rattle.server.proofs.RangeLaws.{busy-charged, deadline-below, deadline-fits}
+use Rattle.server.proofs.RangeLaws.{deadline-below, deadline-fits}
 use Rattle.server.specs.Moves.{arrived, served}
 use Rattle.server.specs.Ranges.{Ranged}
 use Rattle.server.specs.declared.Server.{Server}
@@ -108,7 +108,7 @@ module _ {s : Server} {t : Moment} (r : Ranged t s) (h : t .tick ≤ clockEnd) w
   pub arrival-ranged : (cost : Length) → s .waiting .ticks + cost .ticks ≤ mostWaiting → afterArrival s t cost ≡ arrived s t cost
   arrival-ranged cost w = arrival-taken s t cost (fits-not-beyond s t ranged-fits) w
 
-  pub tick-ranged : (s .waiting .ticks ≡ 0 → ⊥) → afterTick s ≡ served s
-  tick-ranged w =
-      tick-served s
-      (ready-not-unserved s (record { works = w; has = (λ z. omega (arith, busy-charged r w, z)); shows = deadline-fits r h }))
+  -- where it has work and budget, as whoever runs has
+  pub tick-ranged : (s .waiting .ticks ≡ 0 → ⊥) → 1 ≤ s .remaining .ticks → afterTick s ≡ served s
+  tick-ranged w left =
+      tick-served s (ready-not-unserved s (record { works = w; has = (λ z. omega arith); shows = deadline-fits r h }))

@@ -7,14 +7,13 @@ use native.Mathlib.Nat.{not-suc-le-zero, pos-of-ne-zero}
 use native.Mathlib.Numerals.{add-one}
 use native.Mathlib.Omega.{arith}
 use Rattle.clock.specs.declared.Moment.{Moment}
-use Rattle.dispatcher.proofs.PickLaws.{earliest-busy, picked-earliest, picked-none}
+use Rattle.dispatcher.proofs.PickLaws.{earliest-busy, earliest-charged, picked-earliest, picked-none}
 use Rattle.dispatcher.specs.Moves.{arrival}
-use Rattle.dispatcher.specs.Pick.{serverAt, picked, Earliest}
+use Rattle.dispatcher.specs.Pick.{picked, Earliest}
 use Rattle.dispatcher.specs.declared.Dispatcher.{Dispatcher}
 use Rattle.judgement.proofs.FitLaws.{Fit, in-order-all}
 use Rattle.moments.proofs.MomentLaws.{taken-rest, at-keeps}
 use Rattle.moments.specs.Moments.{taken, atMoment}
-use Rattle.server.proofs.RangeLaws.{busy-charged}
 use Rattle.sizes.specs.Sizes.{clockEnd}
 use Rattle.workfile.specs.Work.{Work}
 use Rattle.books.proofs.travel.Events.{event-stands, idle-stands}
@@ -54,11 +53,10 @@ module _ {w : Work} {places : ℕ} (fit : Fit w places) where
           go : Dec (picked d < d .count) → Before w (suc t)
           go (yes some) =
               let earliest : Earliest d (d .count) (picked d) = picked-earliest d some in
-              let works : serverAt d (picked d) .waiting .ticks ≡ 0 → ⊥ = eqb-false _ _ (earliest-busy earliest) in
               stands-next
               (event-stands fit s 0 end ahead (picked d) earliest
-              (busy-charged (stands-within fit s (omega (arith, end)) .servers (picked d) some) works)
-              (pos-of-ne-zero works))
+              (earliest-charged (stands-within fit s (omega (arith, end))) earliest)
+              (pos-of-ne-zero (eqb-false _ _ (earliest-busy earliest))))
           go (no none) = stands-next (idle-stands fit s 0 end ahead (picked-none d (omega arith)))
 
     -- the arrivals of t, no more than n being left, and then the tick

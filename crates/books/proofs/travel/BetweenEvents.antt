@@ -7,14 +7,13 @@ use native.Mathlib.Nat.{pos-of-ne-zero}
 use native.Mathlib.Omega.{arith}
 use Rattle.clock.specs.Clock.{lastTick}
 use Rattle.clock.specs.declared.Moment.{Moment}
-use Rattle.dispatcher.proofs.PickLaws.{earliest-busy}
+use Rattle.dispatcher.proofs.PickLaws.{earliest-busy, earliest-charged}
 use Rattle.dispatcher.specs.Pick.{serverAt, Earliest}
 use Rattle.dispatcher.specs.Within.{Within}
 use Rattle.finish.specs.Finish.{finish}
 use Rattle.judgement.proofs.FitLaws.{Fit, in-order-all}
 use Rattle.moments.proofs.PostponedLaws.{postponed-le}
 use Rattle.moments.specs.Moments.{history}
-use Rattle.server.proofs.RangeLaws.{busy-charged}
 use Rattle.server.specs.Ranges.{Ranged}
 use Rattle.sizes.specs.Sizes.{clockEnd, mostServers}
 use Rattle.trace.proofs.WrittenLaws.{written-length}
@@ -106,4 +105,4 @@ module _ {r : Run} {h : Here} {b : Book} (fit : Fit (r .work) (length (r .finish
     picked-waits = pos-of-ne-zero (eqb-false _ _ (earliest-busy pick))
 
     pub picked-charged : 0 < serverAt (h .dispatcher) i .remaining .ticks
-    picked-charged = busy-charged picked-ranged (eqb-false _ _ (earliest-busy pick))
+    picked-charged = earliest-charged now-within pick

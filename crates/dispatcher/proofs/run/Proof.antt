@@ -7,21 +7,23 @@ use lib.Dec.{eqb}
 use mathlib.Core.Path.{_≡_, sym, _∙_}
 use native.Mathlib.Decide.{ℕ-discrete}
 use native.Mathlib.Omega.{arith}
-use Rattle.server.proofs.PassedOverLaws.{not-passed-over-busy}
-use Rattle.server.proofs.RangeLaws.{busy-charged}
 use Rattle.server.specs.Ranges.{Ranged}
 use Rattle.steps.proofs.StepLaws.{tick-ranged}
 use Rattle.dispatcher.specs.Moves.{ran}
 use Rattle.dispatcher.specs.Pick.{serverAt}
+use Rattle.dispatcher.proofs.PickLaws.{earliest-busy, earliest-charged}
 use Rattle.dispatcher.proofs.run.Statement.{statement}
 use Rattle.dispatcher.proofs.run.Tie as tie
 
--- the server works, and is within its ranges
+-- the server works, has budget left, and is within its ranges
 works : (c : tie.Start) → serverAt (c .args .d) (c .args .i) .waiting .ticks ≡ 0 → ⊥
-works c = eqb-false _ _ (not-passed-over-busy (serverAt (c .args .d) (c .args .i)) (c .pre .1 .1 .1))
+works c = eqb-false _ _ (earliest-busy (c .pre .1 .1))
+
+charged : (c : tie.Start) → 1 ≤ serverAt (c .args .d) (c .args .i) .remaining .ticks
+charged c = earliest-charged (c .pre .0) (c .pre .1 .1)
 
 ranged : (c : tie.Start) → Ranged (c .args .d .clock) (serverAt (c .args .d) (c .args .i))
-ranged c = c .pre .0 .servers _ (c .pre .1 .1 .0)
+ranged c = c .pre .0 .servers _ (c .pre .1 .1 .among)
 
 -- one tick is left where one less is none
 last-left : (n : ℕ) → 1 ≤ n → eqb n 1 ≡ eqb (n - 1) 0
@@ -52,8 +54,8 @@ returns c =
       c .before .with-server .ensures,
       c .before .before .serve .ensures,
       c .before .before .before .before .before .server-at .ensures,
-      tick-ranged (ranged start) (start .pre .0 .clock) (works start),
-      last-left _ (busy-charged (ranged start) (works start)),
+      tick-ranged (ranged start) (start .pre .0 .clock) (works start) (charged start),
+      last-left _ (charged start),
     )
 
 pub run-spec : {M : Type 1} → statement M

@@ -27,10 +27,7 @@ run-requires c κs =
       ok,
       (
         before-end ok (c .before .before .before .if1 .left),
-        (
-          c .if2 .taken,
-          rw (c .before .before .pick .ensures) (picked-earliest _ (chosen c) .works),
-        ),
+        rw (c .before .before .pick .ensures) (picked-earliest _ (chosen c)),
       ),
     )
 
