@@ -4,6 +4,7 @@ ghost use mathlib.Core.Path.{_≡_};
 ghost use Rattle.dispatcher.specs.Within.{Within};
 ghost use Rattle.io.specs.Counts.{Counts};
 use dispatcher::Dispatcher;
+use workfile::Header;
 
 // A list of Q, T pairs as long as the longest table.
 const NUMBERS: usize = 2 * sizes::MOST_SERVERS;
@@ -20,21 +21,22 @@ pub(crate) fn start(file: &[u8]) -> Dispatcher
 {
     let h = workfile::header_of(file);
     let mut table = room_for_table();
-    let numbers = lay(&mut table, file, h.servers.count, h.servers.offset);
+    let numbers = lay(&mut table, file, h);
     let opened = opening::open_table(&table[..numbers], h.frame);
-    take_arrivals(opened.dispatcher, file, h.arrivals.count, h.arrivals.offset)
+    take_arrivals(opened.dispatcher, file, h)
 }
 
 // The numbers of the server records in turn. Answers how many they are, and none where the list is too short.
-fn lay(table: &mut [u64], file: &[u8], count: usize, offset: usize) -> usize
+fn lay(table: &mut [u64], file: &[u8], h: Header) -> usize
     ensures { λ r. ⌜ Counts r (now (table .exit)) ⌝ }
 {
+    let count = h.servers.count;
     if table.len() / 2 < count {
         return 0;
     }
     let mut k = 0;
     while k < count {
-        let b = reader::booking_from(file, offset, sizes::SERVER_BYTES * k);
+        let b = listing::booking_of(file, h, k);
         table[2 * k] = b.budget.ticks;
         table[2 * k + 1] = b.period.ticks;
         k += 1;
@@ -43,16 +45,17 @@ fn lay(table: &mut [u64], file: &[u8], count: usize, offset: usize) -> usize
 }
 
 // The dispatcher when the arrivals of moment 0 are taken, and as it was where they are more than a file may have.
-fn take_arrivals(mut d: Dispatcher, file: &[u8], count: usize, offset: usize) -> Dispatcher
+fn take_arrivals(mut d: Dispatcher, file: &[u8], h: Header) -> Dispatcher
     requires { ⌜ Within d ⌝ }
     ensures { λ r. ⌜ Within r ⌝ }
 {
+    let count = h.arrivals.count;
     if sizes::MOST_ARRIVALS < count {
         return d;
     }
     let mut k = 0;
     while k < count {
-        let a = reader::arrival_from(file, offset, sizes::ARRIVAL_BYTES * k);
+        let a = listing::arrival_of(file, h, k);
         if a.moment.tick == 0 {
             let taken = dispatcher::arrival(d, a.server, a.cost);
             d = taken.dispatcher;

@@ -1,5 +1,5 @@
 -- What the functions of a run may rely on: the file was accepted.
-use Prim.Native.Nat.{ℕ, min, _+_, _*_, _≤_, _<_}
+use Prim.Native.Nat.{ℕ, min, _≤_, _<_}
 use borrow.Author.Tests.{lt-ltb, le-ltb}
 use lib.Dec.{ltb}
 use mathlib.Core.Bool.{cond}
@@ -10,9 +10,8 @@ use native.Mathlib.Omega.{arith}
 use Rattle.judgement.proofs.FitLaws.{Fit, judged-fit}
 use Rattle.judgement.specs.Judgement.{judged}
 use Rattle.refusal.specs.Refusals.{accepted}
-use Rattle.sizes.specs.Sizes.{arrivalBytes, serverBytes}
-use Rattle.workfile.specs.Layout.{arrivalAt, bookingAt, header}
-use Rattle.workfile.specs.Work.{Work, work}
+use Rattle.workfile.specs.Layout.{header}
+use Rattle.workfile.specs.Work.{Work, work, workUnder}
 use Rattle.workfile.specs.declared.Header.{Header}
 
 pub record Accepted (file : List ℕ) : Type 0 where
@@ -58,13 +57,13 @@ module _ (file : List ℕ) {h : Header} (read : h ≡ header file) where
   unfolding work
   servers-read = ap (λ (x : Header). x .servers .count) read
 
-  pub booking-read : (k : ℕ) → bookingAt file (h .servers .offset + serverBytes * k) ≡ work file .table .booking k
+  pub booking-read : (k : ℕ) → workUnder h file .table .booking k ≡ work file .table .booking k
   unfolding work
-  booking-read k = ap (λ (x : Header). bookingAt file (x .servers .offset + serverBytes * k)) read
+  booking-read k = ap (λ (x : Header). workUnder x file .table .booking k) read
 
-  pub arrival-read : (k : ℕ) → arrivalAt file (h .arrivals .offset + arrivalBytes * k) ≡ work file .arrival k
+  pub arrival-read : (k : ℕ) → workUnder h file .arrival k ≡ work file .arrival k
   unfolding work
-  arrival-read k = ap (λ (x : Header). arrivalAt file (x .arrivals .offset + arrivalBytes * k)) read
+  arrival-read k = ap (λ (x : Header). workUnder x file .arrival k) read
 
 -- How far a run goes at most without an arrival, when it is told to end at `until`: up to the moment of arrival j.
 unfoldable pub nextStop : Work → ℕ → ℕ → ℕ

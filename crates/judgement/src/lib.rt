@@ -33,14 +33,13 @@ pub fn judge(file: &[u8], places: usize) -> Verdict
 
 // The arrivals in order, each by 6, 7, 8, then 9.
 fn judge_arrivals(file: &[u8], h: Header, places: usize) -> Verdict
-    requires { ⌜ Sized h ⌝ }
     ensures { λ r. ⌜ onPaper r ≡ listJudged (workUnder h (now (file .entry))) places ⌝ }
 {
     let arrivals = h.arrivals.count;
     let mut before = 0;
     let mut k = 0;
     while k < arrivals {
-        let a = reader::arrival_from(file, h.arrivals.offset, sizes::ARRIVAL_BYTES * k);
+        let a = listing::arrival_of(file, h, k);
         let now = a.moment.tick;
         let faulty = arrival::is_faulty(h.servers.count, a.server, a.cost);
         if faulty {
@@ -70,10 +69,7 @@ fn admit(file: &[u8], h: Header) -> Verdict
     let mut sum = 0;
     let mut k = 0;
     while k < servers {
-        let found = booking::share_of(
-            h.frame,
-            reader::booking_from(file, h.servers.offset, sizes::SERVER_BYTES * k),
-        );
+        let found = booking::share_of(h.frame, listing::booking_of(file, h, k));
         if found.faulty {
             return Verdict::Refused(Refusal::FaultyServer(k));
         }

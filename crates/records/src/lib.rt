@@ -7,14 +7,14 @@ ghost use lib.ListN.{getD};
 ghost use Rattle.clock.specs.Clock.{lastTick};
 ghost use Rattle.sizes.specs.Sizes.{mostServers, openJob};
 ghost use Rattle.summary.proofs.SummaryLaws.{totalOf, withResponse};
-ghost use Rattle.workfile.specs.Layout.{header};
-ghost use Rattle.workfile.specs.Work.{work};
+ghost use Rattle.workfile.specs.Work.{work, workUnder};
 ghost use Rattle.records.specs.working.Job.{filled, finishBy, isOpenAt, withCounts, Roomy, recordsUpTo, withJob};
 ghost use Rattle.records.specs.Records.{recordsOf};
 use clock::Length;
 use clock::Moment;
 use summary::Response;
 use summary::Summary;
+use workfile::Header;
 
 // The records that a file, a finish list and the counts of each server tell.
 pub fn of_run(
@@ -27,32 +27,30 @@ pub fn of_run(
 {
     let h = workfile::header_of(file);
     let servers = least(h.servers.count, sizes::MOST_SERVERS);
-    let from = h.arrivals.offset;
     fill(
-        of_arrivals(file, servers, from, h.arrivals.count, finishes),
+        of_arrivals(file, h, servers, finishes),
         servers,
         postponed,
         interrupted,
     )
 }
 
-// Those that m arrivals tell of so many servers, job by job in file order; the first arrival starts at byte `from`.
+// Those that the arrivals under a header tell of so many servers, job by job in file order.
 fn of_arrivals(
     file: &[u8],
+    h: Header,
     servers: usize,
-    from: usize,
-    m: usize,
     finishes: &[u32],
 ) -> [Summary; sizes::MOST_SERVERS]
-    requires { ⌜ servers ≡ min (header (now file) .servers .count) mostServers ⌝ }
-    requires { ⌜ from ≡ header (now file) .arrivals .offset ⌝ }
-    requires { ⌜ m ≤ openJob ⌝ }
-    ensures { λ r. ⌜ r ≡ recordsUpTo (work (now (file .entry))) (now (finishes .entry)) m ⌝ }
+    requires { ⌜ servers ≡ min (h .servers .count) mostServers ⌝ }
+    requires { ⌜ h .arrivals .count ≤ openJob ⌝ }
+    ensures { λ r. ⌜ r ≡ recordsUpTo (workUnder h (now (file .entry))) (now (finishes .entry)) (h .arrivals .count) ⌝ }
 {
+    let m = h.arrivals.count;
     let mut records = summary::blank_records();
     let mut k = 0;
     while k < m {
-        let a = reader::arrival_from(file, from, sizes::ARRIVAL_BYTES * k);
+        let a = listing::arrival_of(file, h, k);
         let i = a.server;
         if i < servers {
             let s = with_job(records[i], a.moment, finish_in(finishes, k));

@@ -85,14 +85,10 @@ fn shares(file: &[u8]) -> Length
 {
     let h = workfile::header_of(file);
     let servers = h.servers.count;
-    let offset = h.servers.offset;
     let mut sum = 0;
     let mut k = 0;
     while k < servers {
-        let found = booking::share_of(
-            h.frame,
-            reader::booking_from(file, offset, sizes::SERVER_BYTES * k),
-        );
+        let found = booking::share_of(h.frame, listing::booking_of(file, h, k));
         sum += found.share.ticks;
         k += 1;
     }
@@ -140,11 +136,10 @@ fn job_lines(text: &mut [u8], next: usize, file: &[u8], finishes: &[u32]) -> usi
 {
     let h = workfile::header_of(file);
     let jobs = h.arrivals.count;
-    let offset = h.arrivals.offset;
     let mut at = next;
     let mut k = 0;
     while k < jobs {
-        let a = reader::arrival_from(file, offset, sizes::ARRIVAL_BYTES * k);
+        let a = listing::arrival_of(file, h, k);
         at = lines::job(text, at, k, a, finishes[k]);
         k += 1;
     }

@@ -14,8 +14,7 @@ pub(crate) fn arrival_of(file: &[u8], k: usize) -> Arrival
     ensures { λ r. ⌜ r ≡ work (now (file .entry)) .arrival k ⌝ }
 {
     let h = workfile::header_of(file);
-    let from = h.arrivals.offset;
-    reader::arrival_from(file, from, sizes::ARRIVAL_BYTES * k)
+    listing::arrival_of(file, h, k)
 }
 
 // How far a run goes at most without an arrival, when it is told to end at `until`: up to the moment of arrival j.
@@ -27,7 +26,7 @@ pub(crate) fn next_stop(file: &[u8], until: Moment, j: usize) -> Moment
     if j >= h.arrivals.count {
         return until;
     }
-    let a = arrival_of(file, j);
+    let a = listing::arrival_of(file, h, j);
     if until.tick < a.moment.tick {
         return until;
     }

@@ -13,11 +13,10 @@ pub(crate) fn start(file: &[u8]) -> Dispatcher
     let h = workfile::header_of(file);
     let frame = h.frame;
     let count = h.servers.count;
-    let offset = h.servers.offset;
     let mut servers = [server::vacant(); sizes::MOST_SERVERS];
     let mut k = 0;
     while k < count {
-        servers[k] = server::fresh(reader::booking_from(file, offset, sizes::SERVER_BYTES * k));
+        servers[k] = server::fresh(listing::booking_of(file, h, k));
         k += 1;
     }
     Dispatcher {

@@ -61,7 +61,7 @@ done-told : (w : Window) (job : Arrival) (finish : ℕ) → isDone w job finish 
 done-told w job finish e own early = leb-true _ _ (rw (eq-eqb _ _ own, lt-leb _ _ early) at e)
 
 module _ {file list ends : List ℕ} {segments : ℕ} (left : AfterRun file list segments ends) (w : Window) (in-run : inRun w (work file) ≡ true) where
-  pub run-known : w .server < work file .table .count
+  run-known : w .server < work file .table .count
   run-known = ltb-true _ _ (and-left _ _ in-run)
 
   run-sound : Sound (work file .frame) (work file .table .booking (w .server))

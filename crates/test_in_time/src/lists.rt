@@ -1,12 +1,12 @@
 // A server's ticks in a run, told from the lists that it has left: whether the server had no work waiting at a moment by the finish list, and
 // what it got from then on by the trace list.
-ghost use Prim.Native.Nat.{_+_, _*_, _≤_, _<_};
+ghost use Prim.Native.Nat.{_+_, _*_, _≤_};
 ghost use lib.ListN.{length};
 ghost use mathlib.Core.Path.{_≡_};
 ghost use Rattle.callers.specs.Traces.{InTime};
 ghost use Rattle.clock.specs.Clock.{lastTick};
 ghost use Rattle.judgement.proofs.FitLaws.{Fit};
-ghost use Rattle.sizes.specs.Sizes.{clockEnd, mostServers};
+ghost use Rattle.sizes.specs.Sizes.{clockEnd};
 ghost use Rattle.test_in_time.specs.working.Lists.{AfterRun, inRun, isDone, allDone, gotOf, gotBy};
 ghost use Rattle.test_in_time.specs.working.Segments.{AllInTime};
 ghost use Rattle.trace.specs.Written.{fitting, segmentIn};
@@ -54,10 +54,9 @@ fn is_idle(file: &[u8], finishes: &[u32], w: Window) -> bool
 {
     let h = workfile::header_of(file);
     let jobs = h.arrivals.count;
-    let offset = h.arrivals.offset;
     let mut k = 0;
     while k < jobs {
-        let job = reader::arrival_from(file, offset, sizes::ARRIVAL_BYTES * k);
+        let job = listing::arrival_of(file, h, k);
         if !is_done(w, job, finishes[k]) {
             return false;
         }
@@ -81,12 +80,10 @@ fn is_done(w: Window, job: Arrival, finish: u32) -> bool
 
 // The booking of a server.
 fn booking_of(file: &[u8], i: usize) -> Booking
-    requires { ⌜ i < mostServers ⌝ }
     ensures { λ r. ⌜ r ≡ work (now (file .entry)) .table .booking i ⌝ }
 {
     let h = workfile::header_of(file);
-    let offset = h.servers.offset;
-    reader::booking_from(file, offset, sizes::SERVER_BYTES * i)
+    listing::booking_of(file, h, i)
 }
 
 // What the window's server got, by the segments that the list holds.

@@ -21,11 +21,8 @@ abbrev μ-loop : tie.MeasureT-loop
 loop-holds : tie.Need-loop-holds Inv-loop μ-loop
 loop-holds c = (omega arith, sofar-none _ _)
 
-mul-booking-from : tie.Need-mul-booking-from Inv-loop μ-loop
-mul-booking-from c = omega arith
-
-booking-from-requires : tie.Need-booking-from-requires Inv-loop μ-loop
-booking-from-requires c κs = search needs
+booking-of-requires : tie.Need-booking-of-requires Inv-loop μ-loop
+booking-of-requires c κs = search needs
 
 share-of-requires : tie.Need-share-of-requires Inv-loop μ-loop
 share-of-requires c κs = search needs
@@ -35,7 +32,7 @@ found : (c : tie.After-share-of Inv-loop μ-loop)
     → c .share-of .result
     ≡ shareOf (c .before .before .before .before .before .args .h .frame)
     (workUnder (c .before .before .before .before .before .args .h) (c .before .before .before .before .before .args .file .now) .table .booking (c .before .before .before .loop .k))
-found c = rw (c .before .booking-from .ensures) at (c .share-of .ensures)
+found c = rw (c .before .booking-of .ensures) at (c .share-of .ensures)
 
 returns : tie.Need-returns Inv-loop μ-loop
 returns c =
@@ -99,8 +96,7 @@ admit-spec =
     Inv-loop
     μ-loop
     loop-holds
-    mul-booking-from
-    booking-from-requires
+    booking-of-requires
     share-of-requires
     returns
     add-sum

@@ -75,7 +75,7 @@ enum-told : tie.Need-enum-told
 enum-told c = search needs
 
 judge-arrivals-requires : tie.Need-judge-arrivals-requires
-judge-arrivals-requires c κs = sized _ (in-range (c .before .before .before .before .before))
+judge-arrivals-requires c κs = search needs
 
 enum-told-2 : tie.Need-enum-told-2
 enum-told-2 c = search needs

@@ -22,11 +22,8 @@ abbrev μ-loop : tie.MeasureT-loop
 loop-holds : tie.Need-loop-holds Inv-loop μ-loop
 loop-holds c = (omega arith, passed-none _)
 
-mul-arrival-from : tie.Need-mul-arrival-from Inv-loop μ-loop
-mul-arrival-from c = omega arith
-
-arrival-from-requires : tie.Need-arrival-from-requires Inv-loop μ-loop
-arrival-from-requires c κs = search needs
+arrival-of-requires : tie.Need-arrival-of-requires Inv-loop μ-loop
+arrival-of-requires c κs = search needs
 
 is-faulty-requires : tie.Need-is-faulty-requires Inv-loop μ-loop
 is-faulty-requires c κs = search needs
@@ -34,21 +31,21 @@ is-faulty-requires c κs = search needs
 returns : tie.Need-returns Inv-loop μ-loop
 returns c =
     sym
-    (passed-faulty _ (c .before .before .before .before .loop .inv .1) (c .before .before .arrival-from .ensures) _
+    (passed-faulty _ (c .before .before .before .before .loop .inv .1) (c .before .before .arrival-of .ensures) _
     (omega arith)
     (sym (c .before .is-faulty .ensures) ∙ c .if1 .taken))
 
 no-fault : (c : tie.Else1 Inv-loop μ-loop)
     → faultyArrival (c .before .before .before .before .before .before .args .h .servers .count)
-    (c .before .before .arrival-from .result .server)
-    (c .before .before .arrival-from .result .cost)
+    (c .before .before .arrival-of .result .server)
+    (c .before .before .arrival-of .result .cost)
     ≡ false
 no-fault c = sym (c .before .is-faulty .ensures) ∙ c .if1 .left
 
 returns-2 : tie.Need-returns-2 Inv-loop μ-loop
 returns-2 c =
     sym
-    (passed-backward _ (c .before .before .before .before .before .loop .inv .1) (c .before .before .before .arrival-from .ensures) _
+    (passed-backward _ (c .before .before .before .before .before .loop .inv .1) (c .before .before .before .arrival-of .ensures) _
     (omega arith)
     (no-fault (c .before))
     (c .if2 .taken))
@@ -56,7 +53,7 @@ returns-2 c =
 returns-3 : tie.Need-returns-3 Inv-loop μ-loop
 returns-3 c =
     sym
-    (passed-late _ (c .before .before .before .before .before .before .before .loop .inv .1) (c .before .before .before .before .before .arrival-from .ensures) _
+    (passed-late _ (c .before .before .before .before .before .before .before .loop .inv .1) (c .before .before .before .before .before .arrival-of .ensures) _
     (omega arith)
     (no-fault (c .before .before .before))
     (c .before .before .if2 .left)
@@ -72,7 +69,7 @@ loop-again : tie.Need-loop-again Inv-loop μ-loop
 loop-again c = (
   omega arith,
   rw add-one
-      (passed-more _ (c .before .before .before .before .before .before .before .loop .inv .1) (c .before .before .before .before .before .arrival-from .ensures)
+      (passed-more _ (c .before .before .before .before .before .before .before .loop .inv .1) (c .before .before .before .before .before .arrival-of .ensures)
       (no-fault (c .before .before .before))
       (c .before .before .if2 .left)
       (c .if3 .left)),
@@ -102,8 +99,7 @@ judge-arrivals-spec =
     Inv-loop
     μ-loop
     loop-holds
-    mul-arrival-from
-    arrival-from-requires
+    arrival-of-requires
     is-faulty-requires
     returns
     returns-2

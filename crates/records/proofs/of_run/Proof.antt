@@ -10,7 +10,7 @@ use Rattle.numbers.proofs.WordLaws.{word-fits}
 use Rattle.sizes.specs.Sizes.{mostServers, openJob}
 use Rattle.summary.specs.declared.Summary.{Summary}
 use Rattle.workfile.specs.Layout.{header}
-use Rattle.workfile.specs.Work.{work}
+use Rattle.workfile.specs.Work.{work, workUnder}
 use Rattle.workfile.specs.declared.Header.{Header}
 use Rattle.records.specs.working.Job.{filled, recordsUpTo}
 use Rattle.records.proofs.FilledLaws.{records-all}
@@ -22,9 +22,10 @@ few : (file : List ℕ) {h : Header} → h ≡ header file → ((i : ℕ) → ge
 unfolding header
 few file e byte = omega (arith, ap (λ (h : Header). h .arrivals .count) e, word-fits file 16 byte)
 
-all : (file : List ℕ) {h : Header} → h ≡ header file → h .arrivals .count ≡ work file .arrivals
+all : (file list : List ℕ) {h : Header} → h ≡ header file
+    → recordsUpTo (workUnder h file) list (h .arrivals .count) ≡ recordsUpTo (work file) list (work file .arrivals)
 unfolding work
-all file e = ap (λ (h : Header). h .arrivals .count) e
+all file list e = ap (λ (h : Header). recordsUpTo (workUnder h file) list (h .arrivals .count)) e
 
 held : (file : List ℕ) {h : Header} → h ≡ header file → min (h .servers .count) mostServers ≡ min (work file .table .count) mostServers
 unfolding work
@@ -37,12 +38,10 @@ least-requires : tie.Need-least-requires
 least-requires c κs = search needs
 
 of-arrivals-requires : tie.Need-of-arrivals-requires
-of-arrivals-requires c κs =
-    let file = now (c .before .before .before .before .args .file) in
-    let read = c .before .header-of .ensures in (
-      c .least .ensures ∙ ap (λ (h : Header). min (h .servers .count) mostServers) read,
-      (ap (λ (h : Header). h .arrivals .offset) read, few file read (λ i. omega (arith, c .before .before .before .shared-slice-known .given i))),
-    )
+of-arrivals-requires c κs = (
+  c .least .ensures,
+  few _ (c .before .header-of .ensures) (λ i. omega (arith, c .before .before .before .shared-slice-known .given i)),
+)
 
 fill-requires : tie.Need-fill-requires
 fill-requires c κs = omega (arith, c .before .least .ensures)
@@ -54,7 +53,7 @@ returns c =
     c .fill .ensures
     ∙ ap₂ (λ (n : ℕ) (l : List Summary). filled n (now (a .postponed)) (now (a .interrupted)) l)
     (c .before .before .least .ensures ∙ held (now (a .file)) read)
-    (c .before .of-arrivals .ensures ∙ ap (recordsUpTo (work (now (a .file))) (now (a .finishes))) (all (now (a .file)) read))
+    (c .before .of-arrivals .ensures ∙ all (now (a .file)) (now (a .finishes)) read)
     ∙ records-all (work (now (a .file))) (now (a .finishes)) (now (a .postponed)) (now (a .interrupted))
 
 pub of-run-spec : {M : Type 1} → statement M

@@ -16,11 +16,11 @@ use Rattle.report.proofs.job_lines.Statement.{statement}
 use Rattle.report.proofs.job_lines.Tie as tie
 
 abbrev Inv-loop : tie.InvT-loop
-Inv-loop text₀ next file finishes jobs offset at₀ k₀ text at k =
+Inv-loop text₀ next file finishes h jobs at₀ k₀ text at k =
     (k ≤ jobs) × (page text at ≡ added (each k (jobIn (work file) finishes)) (page text₀ next))
 
 abbrev μ-loop : tie.MeasureT-loop
-μ-loop text₀ next file finishes jobs offset at₀ k₀ text at k = jobs - k
+μ-loop text₀ next file finishes h jobs at₀ k₀ text at k = jobs - k
 
 header-of-requires : tie.Need-header-of-requires Inv-loop μ-loop
 header-of-requires c κs = tt
@@ -32,11 +32,8 @@ loop-holds c = (omega arith, each-none _ _)
 here : (c : tie.In-loop Inv-loop μ-loop) → c .before .loop .k < 4_096
 here c = omega (arith, c .loop-test .taken, arrivals-read _ (c .before .before .header-of .ensures), c .before .before .before .before .before .before .pre .0 .fit .arrivals)
 
-mul-arrival-from : tie.Need-mul-arrival-from Inv-loop μ-loop
-mul-arrival-from c = omega (arith, here c)
-
-arrival-from-requires : tie.Need-arrival-from-requires Inv-loop μ-loop
-arrival-from-requires c κs = tt
+arrival-of-requires : tie.Need-arrival-of-requires Inv-loop μ-loop
+arrival-of-requires c κs = tt
 
 mul-job : tie.Need-mul-job Inv-loop μ-loop
 mul-job c = omega (arith, here (c .before .before))
@@ -61,7 +58,7 @@ loop-again c =
       each-next _ (l .k) _ _ _ (l .inv .1)
           (added-as _
           (ap (λ (a : Arrival). jobWith a (l .k) (finishOf (getD finishes (l .k) 0)))
-          (c .before .before .before .before .before .arrival-from .ensures ∙ arrival-read _ (c .before .before .before .before .before .before .before .before .header-of .ensures) (l .k)))
+          (c .before .before .before .before .before .arrival-of .ensures ∙ arrival-read _ (c .before .before .before .before .before .before .before .before .header-of .ensures) (l .k)))
           (c .before .before .job .ensures)),
     )
 
@@ -81,8 +78,7 @@ job-lines-spec =
     μ-loop
     header-of-requires
     loop-holds
-    mul-arrival-from
-    arrival-from-requires
+    arrival-of-requires
     mul-job
     shared-slice-read-job
     job-requires

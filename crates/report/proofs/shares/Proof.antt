@@ -28,10 +28,10 @@ unfaulty H b s =
     )
 
 abbrev Inv-loop : tie.InvT-loop
-Inv-loop file h servers offset sum₀ k₀ sum k = (k ≤ h .servers .count) × Sofar (work file .frame) (work file .table) k sum
+Inv-loop file h servers sum₀ k₀ sum k = (k ≤ h .servers .count) × Sofar (work file .frame) (work file .table) k sum
 
 abbrev μ-loop : tie.MeasureT-loop
-μ-loop file h servers offset sum₀ k₀ sum k = h .servers .count - k
+μ-loop file h servers sum₀ k₀ sum k = h .servers .count - k
 
 header-of-requires : tie.Need-header-of-requires Inv-loop μ-loop
 header-of-requires c κs = tt
@@ -43,11 +43,8 @@ loop-holds c = (omega arith, sofar-none _ _)
 here : (c : tie.In-loop Inv-loop μ-loop) → c .before .loop .k ≤ 64
 here c = omega (arith, c .loop-test .taken, servers-read _ (c .before .before .header-of .ensures), c .before .before .before .before .pre .fit .servers)
 
-mul-booking-from : tie.Need-mul-booking-from Inv-loop μ-loop
-mul-booking-from c = omega (arith, here c)
-
-booking-from-requires : tie.Need-booking-from-requires Inv-loop μ-loop
-booking-from-requires c κs = tt
+booking-of-requires : tie.Need-booking-of-requires Inv-loop μ-loop
+booking-of-requires c κs = tt
 
 share-of-requires : tie.Need-share-of-requires Inv-loop μ-loop
 share-of-requires c κs = tt
@@ -57,7 +54,7 @@ found : (c : tie.After-share-of Inv-loop μ-loop)
     → c .share-of .result ≡ shareOf (work (c .before .before .before .before .before .before .args .file .now) .frame) (work (c .before .before .before .before .before .before .args .file .now) .table .booking (c .before .before .before .loop .k))
 found c =
     let read = c .before .before .before .before .header-of .ensures in
-    c .share-of .ensures ∙ ap₂ shareOf (frame-read _ read) (c .before .booking-from .ensures ∙ booking-read _ read (c .before .before .before .loop .k))
+    c .share-of .ensures ∙ ap₂ shareOf (frame-read _ read) (c .before .booking-of .ensures ∙ booking-read _ read (c .before .before .before .loop .k))
 
 -- one server more
 one-more : (c : tie.After-struct-known Inv-loop μ-loop)
@@ -106,8 +103,7 @@ shares-spec =
     μ-loop
     header-of-requires
     loop-holds
-    mul-booking-from
-    booking-from-requires
+    booking-of-requires
     share-of-requires
     add-sum
     add-k

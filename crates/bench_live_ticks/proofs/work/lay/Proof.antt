@@ -9,10 +9,10 @@ use Rattle.bench_live_ticks.proofs.work.lay.Statement.{statement}
 use Rattle.bench_live_ticks.proofs.work.lay.Tie as tie
 
 abbrev Inv-loop : tie.InvT-loop
-Inv-loop table₀ file count offset k₀ table k = (k ≤ count) × ((count ≤ length table₀ / 2) × (length table ≡ length table₀))
+Inv-loop table₀ file h count k₀ table k = (k ≤ count) × ((count ≤ length table₀ / 2) × (length table ≡ length table₀))
 
 abbrev μ-loop : tie.MeasureT-loop
-μ-loop table₀ file count offset k₀ table k = count - k
+μ-loop table₀ file h count k₀ table k = count - k
 
 returns : tie.Need-returns Inv-loop μ-loop
 returns c = (omega arith, refl)
@@ -20,11 +20,8 @@ returns c = (omega arith, refl)
 loop-holds : tie.Need-loop-holds Inv-loop μ-loop
 loop-holds c = (omega arith, (omega arith, refl))
 
-mul-booking-from : tie.Need-mul-booking-from Inv-loop μ-loop
-mul-booking-from c = omega arith
-
-booking-from-requires : tie.Need-booking-from-requires Inv-loop μ-loop
-booking-from-requires c κs = search needs
+booking-of-requires : tie.Need-booking-of-requires Inv-loop μ-loop
+booking-of-requires c κs = search needs
 
 mul-table : tie.Need-mul-table Inv-loop μ-loop
 mul-table c = omega arith
@@ -73,8 +70,7 @@ lay-spec =
     μ-loop
     returns
     loop-holds
-    mul-booking-from
-    booking-from-requires
+    booking-of-requires
     mul-table
     mul-table-2
     slice-write-table

@@ -9,10 +9,10 @@ use Rattle.bench_live_ticks.proofs.work.take_arrivals.Statement.{statem
 use Rattle.bench_live_ticks.proofs.work.take_arrivals.Tie as tie
 
 abbrev Inv-loop : tie.InvT-loop
-Inv-loop d₀ file count offset k₀ d k = (k ≤ count) × ((count ≤ mostArrivals) × Within d)
+Inv-loop d₀ file h count k₀ d k = (k ≤ count) × ((count ≤ mostArrivals) × Within d)
 
 abbrev μ-loop : tie.MeasureT-loop
-μ-loop d₀ file count offset k₀ d k = count - k
+μ-loop d₀ file h count k₀ d k = count - k
 
 returns : tie.Need-returns Inv-loop μ-loop
 returns c = search needs
@@ -20,11 +20,8 @@ returns c = search needs
 loop-holds : tie.Need-loop-holds Inv-loop μ-loop
 loop-holds c = (omega arith, (omega arith, search needs))
 
-mul-arrival-from : tie.Need-mul-arrival-from Inv-loop μ-loop
-mul-arrival-from c = omega arith
-
-arrival-from-requires : tie.Need-arrival-from-requires Inv-loop μ-loop
-arrival-from-requires c κs = search needs
+arrival-of-requires : tie.Need-arrival-of-requires Inv-loop μ-loop
+arrival-of-requires c κs = search needs
 
 arrival-requires : tie.Need-arrival-requires Inv-loop μ-loop
 arrival-requires c κs = search needs
@@ -56,8 +53,7 @@ take-arrivals-spec =
     μ-loop
     returns
     loop-holds
-    mul-arrival-from
-    arrival-from-requires
+    arrival-of-requires
     arrival-requires
     add-k
     loop-less

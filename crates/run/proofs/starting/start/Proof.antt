@@ -15,11 +15,11 @@ use Rattle.run.proofs.starting.start.Statement.{statement}
 use Rattle.run.proofs.starting.start.Tie as tie
 
 abbrev Inv-loop : tie.InvT-loop
-Inv-loop file frame count offset servers₀ k₀ servers k =
+Inv-loop file h frame count servers₀ k₀ servers k =
     (k ≤ work file .table .count) × (servers ≡ places mostServers (startAt (firstOf (work file .table .booking) k)))
 
 abbrev μ-loop : tie.MeasureT-loop
-μ-loop file frame count offset servers₀ k₀ servers k = count - k
+μ-loop file h frame count servers₀ k₀ servers k = count - k
 
 header-of-requires : tie.Need-header-of-requires Inv-loop μ-loop
 header-of-requires c κs = search needs
@@ -30,14 +30,8 @@ vacant-requires c κs = search needs
 loop-holds : tie.Need-loop-holds Inv-loop μ-loop
 loop-holds c = (omega arith, rw (c .vacant .ensures) (start-none _))
 
-mul-booking-from : tie.Need-mul-booking-from Inv-loop μ-loop
-mul-booking-from c =
-    let start = c .before .before .before .before .before .before in
-    let count = servers-read (start .args .file .now) (c .before .before .before .before .header-of .ensures) in
-    omega (arith, c .loop-test .taken, count, start .pre .fit .servers)
-
-booking-from-requires : tie.Need-booking-from-requires Inv-loop μ-loop
-booking-from-requires c κs = search needs
+booking-of-requires : tie.Need-booking-of-requires Inv-loop μ-loop
+booking-of-requires c κs = search needs
 
 fresh-requires : tie.Need-fresh-requires Inv-loop μ-loop
 fresh-requires c κs = search needs
@@ -72,7 +66,7 @@ loop-again c =
         add-one,
         c .before .before .before .loop .inv .1,
         c .fresh .ensures,
-        c .before .booking-from .ensures,
+        c .before .booking-of .ensures,
         booking-read file read k,
       )
           (start-more (work file .table .booking) k (omega (arith, more, start .pre .fit .servers))),
@@ -96,8 +90,7 @@ start-spec =
     header-of-requires
     vacant-requires
     loop-holds
-    mul-booking-from
-    booking-from-requires
+    booking-of-requires
     fresh-requires
     mul-servers
     array-set-from-servers

@@ -15,10 +15,10 @@ use Rattle.test_in_time.proofs.lists.is_idle.Statement.{statement}
 use Rattle.test_in_time.proofs.lists.is_idle.Tie as tie
 
 abbrev Inv-loop : tie.InvT-loop
-Inv-loop file finishes w jobs offset k₀ k = (k ≤ jobs) × (every k (λ j. isDone w (work file .arrival j) (getD finishes j 0)) ≡ true)
+Inv-loop file finishes w h jobs k₀ k = (k ≤ jobs) × (every k (λ j. isDone w (work file .arrival j) (getD finishes j 0)) ≡ true)
 
 abbrev μ-loop : tie.MeasureT-loop
-μ-loop file finishes w jobs offset k₀ k = jobs - k
+μ-loop file finishes w h jobs k₀ k = jobs - k
 
 -- whether job j does not wait
 abbrev done : tie.Start Inv-loop μ-loop → ℕ → Bool
@@ -38,11 +38,8 @@ here c = omega (arith, c .loop-test .taken, arrivals-read _ (c .before .before .
 few : (c : tie.In-loop Inv-loop μ-loop) → c .before .loop .k < 4_096
 few c = omega (arith, here c, c .before .before .before .before .before .pre .arrivals)
 
-mul-arrival-from : tie.Need-mul-arrival-from Inv-loop μ-loop
-mul-arrival-from c = omega (arith, few c)
-
-arrival-from-requires : tie.Need-arrival-from-requires Inv-loop μ-loop
-arrival-from-requires c κs = tt
+arrival-of-requires : tie.Need-arrival-of-requires Inv-loop μ-loop
+arrival-of-requires c κs = tt
 
 mul-is-done : tie.Need-mul-is-done Inv-loop μ-loop
 mul-is-done c = omega (arith, few (c .before))
@@ -62,7 +59,7 @@ one c =
     let start = turn .before .before .before .before .before in
     c .is-done .ensures
     ∙ ap (λ (job : Arrival). isDone (start .args .w) job (getD (start .args .finishes .now) (turn .before .loop .k) 0))
-    (c .before .before .arrival-from .ensures ∙ arrival-read _ (turn .before .before .header-of .ensures) _)
+    (c .before .before .arrival-of .ensures ∙ arrival-read _ (turn .before .before .header-of .ensures) _)
 
 returns : tie.Need-returns Inv-loop μ-loop
 returns c =
@@ -99,8 +96,7 @@ is-idle-spec =
     μ-loop
     header-of-requires
     loop-holds
-    mul-arrival-from
-    arrival-from-requires
+    arrival-of-requires
     mul-is-done
     shared-slice-read-is-done
     is-done-requires

@@ -3,10 +3,9 @@
 use borrow.Author.Needs.{needs}
 use mathlib.Core.Bool.{true}
 use mathlib.Core.Path.{_≡_, sym, _∙_}
-use native.Mathlib.Omega.{arith}
 use Rattle.workfile.specs.Work.{work}
 use Rattle.test_in_time.specs.working.Lists.{inRun, allDone}
-use Rattle.test_in_time.proofs.ListsLaws.{run-known, run-allowed, run-got-fits}
+use Rattle.test_in_time.proofs.ListsLaws.{run-allowed, run-got-fits}
 use Rattle.test_in_time.proofs.lists.line.Statement.{statement}
 use Rattle.test_in_time.proofs.lists.line.Tie as tie
 
@@ -30,9 +29,7 @@ done : (c : tie.After-line-arg) → allDone (start c .args .w) (work (start c .a
 done c = sym (c .before .before .is-idle .ensures) ∙ c .before .if2 .taken
 
 booking-of-requires : tie.Need-booking-of-requires
-booking-of-requires c κs =
-    let left = start c .pre .0 in
-    omega (arith, run-known left (start c .args .w) (in-run c), left .fit .servers)
+booking-of-requires c κs = search needs
 
 got-requires : tie.Need-got-requires
 got-requires c κs =

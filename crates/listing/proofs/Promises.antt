@@ -1,0 +1,18 @@
+-- Each promise of this crate allows one outcome, and asks nothing.
+use Rattle.promise.specs.AsksNothing.{AsksNothing}
+use Rattle.promise.specs.OneOutcome.{OneOutcome}
+use Rattle.promise.proofs.OneOutcomeLaws.{both-are}
+use Rattle.listing.proofs.arrival_of.Reads as arrival-of
+use Rattle.listing.proofs.booking_of.Reads as booking-of
+
+pub booking-of-one : OneOutcome booking-of.Post
+booking-of-one l a x y at-x at-y p q = both-are p q
+
+pub booking-of-asks : AsksNothing booking-of.Pre
+booking-of-asks l a given = tt
+
+pub arrival-of-one : OneOutcome arrival-of.Post
+arrival-of-one l a x y at-x at-y p q = both-are p q
+
+pub arrival-of-asks : AsksNothing arrival-of.Pre
+arrival-of-asks l a given = tt
