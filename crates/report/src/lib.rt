@@ -1,7 +1,7 @@
 // The day report of a work file, as text in a lent buffer, and that no report is longer than its text.
 mod lines;
 
-ghost use Prim.Native.Nat.{_+_, _*_, _≤_, min};
+ghost use Prim.Native.Nat.{_≤_, min};
 ghost use lib.ListN.{length, getD};
 ghost use mathlib.Core.Path.{_≡_};
 ghost use Rattle.booking.specs.Admission.{shares};
@@ -15,10 +15,8 @@ ghost use Rattle.text.specs.Page.{added, page};
 ghost use Rattle.trace.specs.Written.{segmentIn};
 ghost use Rattle.workfile.specs.Work.{work};
 use clock::Length;
-use clock::Moment;
 use refusal::Verdict;
 use summary::Summary;
-use trace::Segment;
 
 // No report is longer (`report-fits` of proofs/LengthLaws.antt).
 pub const MOST_BYTES: usize = 262144;
@@ -97,35 +95,16 @@ fn shares(file: &[u8]) -> Length
 
 // The lines of the first segments of a trace list.
 fn segment_lines(text: &mut [u8], next: usize, list: &[u64], shown: usize) -> usize
-    requires { ⌜ 4 * shown ≤ length (now list) ⌝ }
     ensures { λ r. ⌜ page (now (text .exit)) r ≡ added (each shown (λ k. segmentLine (segmentIn (now (list .entry)) k))) (page (now (text .entry)) next) ⌝ }
 {
     let mut at = next;
     let mut k = 0;
     while k < shown {
-        let s = segment_in(list, k);
+        let s = trace::segment_at(list, k);
         at = lines::segment(text, at, s);
         k += 1;
     }
     at
-}
-
-// Segment k of a trace list.
-fn segment_in(list: &[u64], k: usize) -> Segment
-    requires { ⌜ 4 * k + 4 ≤ length (now list) ⌝ }
-    ensures { λ r. ⌜ r ≡ segmentIn (now (list .entry)) k ⌝ }
-{
-    let place = 4 * k;
-    let start = list[place];
-    let length = list[place + 1];
-    let server = list[place + 2] as usize;
-    let deadline = list[place + 3];
-    Segment {
-        start: Moment { tick: start },
-        length: Length { ticks: length },
-        server,
-        deadline: Moment { tick: deadline },
-    }
 }
 
 // The lines of all jobs of an accepted file.

@@ -1,6 +1,6 @@
 // A server's ticks in a run, told from the lists that it has left: whether the server had no work waiting at a moment by the finish list, and
 // what it got from then on by the trace list.
-ghost use Prim.Native.Nat.{_+_, _*_, _≤_};
+ghost use Prim.Native.Nat.{_≤_};
 ghost use lib.ListN.{length};
 ghost use mathlib.Core.Path.{_≡_};
 ghost use Rattle.callers.specs.Traces.{InTime};
@@ -9,13 +9,12 @@ ghost use Rattle.judgement.proofs.FitLaws.{Fit};
 ghost use Rattle.sizes.specs.Sizes.{clockEnd};
 ghost use Rattle.test_in_time.specs.working.Lists.{AfterRun, inRun, isDone, allDone, gotOf, gotBy};
 ghost use Rattle.test_in_time.specs.working.Segments.{AllInTime};
-ghost use Rattle.trace.specs.Written.{fitting, segmentIn};
+ghost use Rattle.trace.specs.Written.{fitting};
 ghost use Rattle.workfile.specs.Work.{work};
 use crate::bandwidth;
 use crate::bandwidth::Window;
 use arrival::Arrival;
 use booking::Booking;
-use clock::Length;
 use clock::Moment;
 use trace::Segment;
 
@@ -96,7 +95,7 @@ fn got(list: &[u64], segments: usize, w: Window) -> u64
     let mut sum = 0;
     let mut k = 0;
     while k < held {
-        let s = segment_in(list, k);
+        let s = trace::segment_at(list, k);
         sum += got_of(w, s);
         k += 1;
     }
@@ -109,24 +108,6 @@ pub(crate) fn held(list: &[u64], count: usize) -> usize
 {
     let room = list.len() / 4;
     if count < room { count } else { room }
-}
-
-// Segment k of a trace list.
-pub(crate) fn segment_in(list: &[u64], k: usize) -> Segment
-    requires { ⌜ 4 * k + 4 ≤ length (now list) ⌝ }
-    ensures { λ r. ⌜ r ≡ segmentIn (now (list .entry)) k ⌝ }
-{
-    let at = 4 * k;
-    let start = list[at];
-    let length = list[at + 1];
-    let server = list[at + 2] as usize;
-    let deadline = list[at + 3];
-    Segment {
-        start: Moment { tick: start },
-        length: Length { ticks: length },
-        server,
-        deadline: Moment { tick: deadline },
-    }
 }
 
 // What it got by one segment.

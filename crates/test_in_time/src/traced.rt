@@ -61,7 +61,7 @@ fn segments(list: &[u64], count: usize)
     let held = lists::held(list, count);
     let mut k = 0;
     while k < held {
-        segment(k, lists::segment_in(list, k));
+        segment(k, trace::segment_at(list, k));
         k += 1;
     }
 }

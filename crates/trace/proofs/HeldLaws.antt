@@ -1,8 +1,9 @@
 -- What a lent list holds of a trace: its first segments, which have what all have, and add up to no more than all.
-use Prim.Native.Nat.{ℕ, zero, suc, _+_, _*_, _≤_, _<_}
-use lib.ListN.{length, getD}
+use Prim.Native.Nat.{ℕ, zero, suc, _+_, _*_, _≤_, _<_, min}
+use lib.ListN.{length, getD, List·getD-eq-default}
 use mathlib.Core.List.{List, [], _∷_}
-use mathlib.Core.Path.{_≡_, refl, ap, ap₂, subst⁻¹}
+use mathlib.Core.Path.{_≡_, refl, sym, _∙_, ap, ap₂, subst⁻¹}
+use native.Mathlib.Decide.{decLt}
 use native.Mathlib.Nat.{le-of-suc-le-suc, not-suc-le-zero}
 use native.Mathlib.Omega.{arith}
 use Rattle.counting.proofs.SumLaws.{sum-front}
@@ -11,7 +12,25 @@ use Rattle.trace.specs.declared.Segment.{Segment}
 use Rattle.trace.specs.Segments.{EverySegment}
 use Rattle.trace.proofs.SegmentLaws.{every-at}
 use Rattle.trace.specs.Ticks.{sumOver}
-use Rattle.trace.specs.Written.{segmentIn, written}
+use Rattle.trace.specs.Written.{segmentIn, segmentOf, written}
+
+-- number n of segment k, read from the first place of the segment or, where that lies behind it, from the end
+read-from : (list : List ℕ) (k n : ℕ) {at a : ℕ} → at ≡ min (length list) (4 * k) → a ≡ getD list (at + n) 0 → a ≡ getD list (4 * k + n) 0
+read-from list k n {at} {a} from e = e ∙ go (decLt (4 * k + n) (length list))
+  where
+    go : Dec (4 * k + n < length list) → getD list (at + n) 0 ≡ getD list (4 * k + n) 0
+    go (yes h) = ap (λ (p : ℕ). getD list p 0) (omega (arith, from))
+    go (no h) = List·getD-eq-default list 0 (omega (arith, from)) ∙ sym (List·getD-eq-default list 0 (omega arith))
+
+-- four numbers that are read so are segment k
+pub segmentIn-read : (list : List ℕ) (k : ℕ) {at a b c d : ℕ} → at ≡ min (length list) (4 * k)
+    → a ≡ getD list at 0 → b ≡ getD list (at + 1) 0 → c ≡ getD list (at + 2) 0 → d ≡ getD list (at + 3) 0
+    → segmentOf a b c d ≡ segmentIn list k
+segmentIn-read list k {at} {a} from e f g h =
+    rw (read-from list k 1 from f, read-from list k 2 from g, read-from list k 3 from h, start)
+  where
+    start : a ≡ getD list (4 * k) 0
+    start = read-from list k 0 from (e ∙ ap (λ (p : ℕ). getD list p 0) (omega arith)) ∙ ap (λ (p : ℕ). getD list p 0) (omega arith)
 
 -- segment k stands in the list where it fits
 pub segment-at : (tr : List Segment) (list : List ℕ) (k : ℕ) (d : Segment) → k < length tr → 4 * k + 4 ≤ length list

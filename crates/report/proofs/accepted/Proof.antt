@@ -27,7 +27,7 @@ admitted-requires : tie.Need-admitted-requires
 admitted-requires c κs = tt
 
 segment-lines-requires : tie.Need-segment-lines-requires
-segment-lines-requires c κs = omega (arith, c .before .before .before .before .before .before .least .ensures)
+segment-lines-requires c κs = tt
 
 segments-requires : tie.Need-segments-requires
 segments-requires c κs = tt

@@ -22,8 +22,8 @@ abbrev μ-loop : tie.MeasureT-loop
 loop-holds : tie.Need-loop-holds Inv-loop μ-loop
 loop-holds c = (omega arith, each-none _ _)
 
-segment-in-requires : tie.Need-segment-in-requires Inv-loop μ-loop
-segment-in-requires c κs = omega (arith, c .loop-test .taken, c .before .before .before .before .pre)
+segment-at-requires : tie.Need-segment-at-requires Inv-loop μ-loop
+segment-at-requires c κs = tt
 
 segment-requires : tie.Need-segment-requires Inv-loop μ-loop
 segment-requires c κs = tt
@@ -39,7 +39,7 @@ loop-again c =
     let l = c .before .before .before .before .before .before .loop in (
       omega (arith, c .before .before .before .before .before .loop-test .taken),
       each-next _ (l .k) _ _ _ (l .inv .1)
-          (added-as _ (ap segmentLine (c .before .before .before .before .segment-in .ensures)) (c .before .before .segment .ensures)),
+          (added-as _ (ap segmentLine (c .before .before .before .before .segment-at .ensures)) (c .before .before .segment .ensures)),
     )
 
 same-length : tie.Need-same-length Inv-loop μ-loop
@@ -55,7 +55,7 @@ segment-lines-spec =
     Inv-loop
     μ-loop
     loop-holds
-    segment-in-requires
+    segment-at-requires
     segment-requires
     add-k
     loop-less

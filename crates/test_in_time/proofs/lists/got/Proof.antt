@@ -23,13 +23,13 @@ loop-holds : tie.Need-loop-holds Inv-loop μ-loop
 unfolding sum
 loop-holds c = (omega arith, refl)
 
-segment-in-requires : tie.Need-segment-in-requires Inv-loop μ-loop
-segment-in-requires c κs = omega (arith, c .loop-test .taken, c .before .before .held .ensures)
+segment-at-requires : tie.Need-segment-at-requires Inv-loop μ-loop
+segment-at-requires c κs = tt
 
 got-of-requires : tie.Need-got-of-requires Inv-loop μ-loop
 got-of-requires c κs =
     let held = c .before .before .before in
-    subst⁻¹ InTime (c .segment-in .ensures)
+    subst⁻¹ InTime (c .segment-at .ensures)
     (held .before .before .pre .0 _ (omega (arith, c .before .loop-test .taken, held .held .ensures)))
 
 -- what segment j of the list has; this turn adds that
@@ -40,7 +40,7 @@ abbrev start : tie.After-got-of Inv-loop μ-loop → tie.Start Inv-loop μ-loop
 start c = c .before .before .before .before .before .before
 
 one : (c : tie.After-got-of Inv-loop μ-loop) → c .got-of .result ≡ each (start c) (c .before .before .before .loop .k)
-one c = c .got-of .ensures ∙ ap (gotOf (start c .args .w)) (c .before .segment-in .ensures)
+one c = c .got-of .ensures ∙ ap (gotOf (start c .args .w)) (c .before .segment-at .ensures)
 
 add-sum : tie.Need-add-sum Inv-loop μ-loop
 add-sum c =
@@ -76,7 +76,7 @@ got-spec =
     μ-loop
     held-requires
     loop-holds
-    segment-in-requires
+    segment-at-requires
     got-of-requires
     add-sum
     add-k

@@ -18,13 +18,13 @@ held-requires c κs = tt
 loop-holds : tie.Need-loop-holds Inv-loop μ-loop
 loop-holds c = omega arith
 
-segment-in-requires : tie.Need-segment-in-requires Inv-loop μ-loop
-segment-in-requires c κs = omega (arith, c .loop-test .taken, c .before .before .held .ensures)
+segment-at-requires : tie.Need-segment-at-requires Inv-loop μ-loop
+segment-at-requires c κs = tt
 
 segment-requires : tie.Need-segment-requires Inv-loop μ-loop
 segment-requires c κs =
     let held = c .before .before .before in
-    subst⁻¹ InTime (c .segment-in .ensures)
+    subst⁻¹ InTime (c .segment-at .ensures)
     (held .before .before .pre _ (omega (arith, c .before .loop-test .taken, held .held .ensures)))
 
 add-k : tie.Need-add-k Inv-loop μ-loop
@@ -47,7 +47,7 @@ segments-spec =
     μ-loop
     held-requires
     loop-holds
-    segment-in-requires
+    segment-at-requires
     segment-requires
     add-k
     loop-less
