@@ -19,7 +19,8 @@ use Rattle.opening.specs.Opening.{tableJudged}
 use Rattle.report.specs.DayReport.{dayReport, segmentLines, jobLine, serverLine}
 use Rattle.server.specs.Moves as server
 use Rattle.summary.specs.Summary.{arrivedOf, finishedOf, howMany, interruptedOf, responseIn, responses, responsesOf, summaryOf}
-use Rattle.text.specs.Line.{decimal, digitsUpTo, each}
+use Rattle.page.specs.Page.{each}
+use Rattle.text.specs.Line.{decimal, digitsUpTo}
 use Rattle.trace.specs.Ticks.{sumOver}
 use Rattle.trace.specs.Trace.{begins, begun, lasting}
 use Rattle.workfile.specs.Layout.{arrivalAt, bookingAt, header}

@@ -12,8 +12,8 @@ use Rattle.finish.specs.Finish.{finishOf, finishList}
 use Rattle.moments.specs.Moments.{history}
 use Rattle.sizes.specs.Sizes.{clockEnd, mostServers}
 use Rattle.summary.specs.Summary.{blank, finishes, summaries, summaryOf}
-use Rattle.text.proofs.LineLaws.{each-same}
-use Rattle.text.specs.Line.{each}
+use Rattle.page.proofs.EachLaws.{each-same}
+use Rattle.page.specs.Page.{each}
 use Rattle.trace.proofs.HeldLaws.{segment-at}
 use Rattle.trace.specs.Written.{segmentIn, written}
 use Rattle.trace.specs.declared.Segment.{Segment}

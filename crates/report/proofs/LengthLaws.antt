@@ -17,10 +17,9 @@ use Rattle.refusal.specs.Refusals.{Said, refused, gave}
 use Rattle.sizes.specs.Sizes.{clockEnd, mostArrivals, mostShown}
 use Rattle.summary.proofs.BoundLaws.{summary-bounded}
 use Rattle.summary.specs.Summary.{traceOf, finishes, summaryOf}
-use Rattle.text.proofs.LengthLaws.{each-length}
-use Rattle.text.proofs.PageLaws.{added-whole}
-use Rattle.text.specs.Line.{each}
-use Rattle.text.specs.Page.{page, added}
+use Rattle.page.proofs.EachLaws.{each-length}
+use Rattle.page.proofs.PageLaws.{added-whole}
+use Rattle.page.specs.Page.{page, added, each}
 use Rattle.trace.proofs.SegmentLaws.{every-take, begun-few, begun-every}
 use Rattle.trace.specs.Segments.{EverySegment}
 use Rattle.trace.specs.Trace.{segmentsOf}

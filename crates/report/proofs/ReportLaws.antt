@@ -10,9 +10,8 @@ use Rattle.finish.specs.Finish.{finishList}
 use Rattle.sizes.specs.Sizes.{mostArrivals, mostShown}
 use Rattle.summary.specs.Summary.{traceOf, blank, summaryOf}
 use Rattle.summary.specs.declared.Summary.{Summary}
-use Rattle.text.proofs.PageLaws.{added-as, added-then}
-use Rattle.text.specs.Line.{each}
-use Rattle.text.specs.Page.{Page, added}
+use Rattle.page.proofs.PageLaws.{added-as, added-then}
+use Rattle.page.specs.Page.{Page, added, each}
 use Rattle.trace.proofs.WrittenLaws.{written-length}
 use Rattle.trace.specs.Written.{fitting, segmentIn}
 use Rattle.trace.specs.declared.Segment.{Segment}

@@ -14,8 +14,8 @@ use Rattle.refusal.specs.Refusals.{Said, gave, refused}
 use Rattle.run.proofs.UnusedBytes.{judged-same}
 use Rattle.sizes.specs.Sizes.{mostArrivals, mostShown}
 use Rattle.summary.specs.Summary.{summaryOf, traceOf}
-use Rattle.text.proofs.LineLaws.{each-same}
-use Rattle.text.specs.Line.{each}
+use Rattle.page.proofs.EachLaws.{each-same}
+use Rattle.page.specs.Page.{each}
 use Rattle.trace.specs.declared.Segment.{Segment}
 use Rattle.workfile.specs.Layout.{header}
 use Rattle.workfile.specs.Work.{Work, work, workUnder}

@@ -14,7 +14,8 @@ use Rattle.summary.specs.Summary.{traceOf, finishes, summaryOf}
 use Rattle.summary.specs.declared.Response.the-variants.{Absent, Over}
 use Rattle.summary.specs.declared.Response.{Response}
 use Rattle.summary.specs.declared.Summary.{Summary}
-use Rattle.text.specs.Line.{Field, word, number, line, each}
+use Rattle.page.specs.Page.{each}
+use Rattle.text.specs.Line.{Field, word, number, line}
 use Rattle.trace.specs.declared.Segment.{Segment}
 use Rattle.workfile.specs.Work.{Work, work}
 

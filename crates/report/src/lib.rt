@@ -10,8 +10,7 @@ ghost use Rattle.report.specs.DayReport.{acceptedReport, dayReport, segm
 ghost use Rattle.report.specs.working.AfterRun.{AfterRun, jobIn};
 ghost use Rattle.sizes.specs.Sizes.{mostArrivals, mostServers, traceNumbers};
 ghost use Rattle.summary.specs.Summary.{blank, traceOf};
-ghost use Rattle.text.specs.Line.{each};
-ghost use Rattle.text.specs.Page.{added, page};
+ghost use Rattle.page.specs.Page.{added, page, each};
 ghost use Rattle.trace.specs.Written.{segmentIn};
 ghost use Rattle.workfile.specs.Work.{work};
 use clock::Length;

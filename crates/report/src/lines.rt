@@ -5,7 +5,7 @@ ghost use Rattle.finish.specs.Finish.{finishOf};
 ghost use Rattle.refusal.specs.Refusals.{numberOf, placeOf};
 ghost use Rattle.report.specs.DayReport.{refusedLine, admittedLine, segmentLine, segmentsLine, jobWith, totalField, longestField, serverLine};
 ghost use Rattle.text.specs.Line.{bytes, bytesOf, decimal, goesOn, number};
-ghost use Rattle.text.specs.Page.{added, page};
+ghost use Rattle.page.specs.Page.{added, page};
 use arrival::Arrival;
 use clock::Length;
 use clock::Moment;

@@ -1,12 +1,12 @@
--- How long a number, a line and lines one behind the other are.
-use Prim.Native.Nat.{ℕ, zero, suc, _+_, _*_, _/_, _%_, _^_, _≤_, _<_}
+-- How long a number and a line are.
+use Prim.Native.Nat.{ℕ, zero, suc, _+_, _/_, _%_, _^_, _≤_, _<_}
 use Prim.Native.String.{String}
 use lib.ListN.{length, length-append}
 use mathlib.Core.List.{List, [], _∷_}
 use mathlib.Core.Path.{_≡_, refl, _∙_, ap}
 use native.Mathlib.Decide.{decLt}
 use native.Mathlib.Omega.{arith}
-use Rattle.text.specs.Line.{bytes, digit, decimal, Field, bytesOf, goesOn, line, each}
+use Rattle.text.specs.Line.{bytes, digit, decimal, Field, bytesOf, goesOn, line}
 use Rattle.text.proofs.LineLaws.{decimal-last, decimal-more}
 
 -- a number below 10 ^ (k + 1) has at most k + 1 digits
@@ -34,10 +34,3 @@ goes-on-length (f ∷ more) =
 pub line-length : (first : String) (rest : List Field) → length (line first rest) ≡ length (bytes first) + widths rest
 line-length first rest =
     length-append (bytes first) (goesOn rest) ∙ ap (λ (n : ℕ). length (bytes first) + n) (goes-on-length rest)
-
--- n texts of at most k bytes have at most n × k together
-pub each-length : (n k : ℕ) (f : ℕ → List ℕ) → ((i : ℕ) → i < n → length (f i) ≤ k) → length (each n f) ≤ n * k
-unfolding each
-each-length zero k f short = omega arith
-each-length (suc n) k f short =
-    omega (arith, each-length n k f (λ i b. short i (omega arith)), short n (omega arith), length-append (each n f) (f n))

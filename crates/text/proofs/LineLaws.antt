@@ -1,12 +1,12 @@
--- A number in decimal, digit by digit; and things in turn.
+-- A number in decimal, digit by digit.
 use Prim.Native.Nat.{ℕ, zero, suc, _/_, _%_, _≤_, _<_}
 use borrow.Author.Tests.{lt-ltb, le-ltb}
 use mathlib.Core.List.{List, [], _∷_, _++_}
-use mathlib.Core.Path.{_≡_, refl, _∙_, ap, ap₂}
+use mathlib.Core.Path.{_≡_, _∙_, ap}
 use native.Mathlib.Decide.{decLt}
 use native.Mathlib.Nat.{not-suc-le-zero}
 use native.Mathlib.Omega.{arith}
-use Rattle.text.specs.Line.{digit, digitsUpTo, decimal, each}
+use Rattle.text.specs.Line.{digit, digitsUpTo, decimal}
 
 -- one step
 up-to-last : (most n : ℕ) → n < 10 → digitsUpTo (suc most) n ≡ digit n ∷ []
@@ -39,9 +39,3 @@ unfolding decimal
 decimal-more n h =
     up-to-more n n h
     ∙ ap (λ (l : List ℕ). l ++ digit (n % 10) ∷ []) (up-to-enough n (suc (n / 10)) (n / 10) (omega arith) (omega arith))
-
--- functions that agree below n give the same in turn
-pub each-same : (n : ℕ) (f g : ℕ → List ℕ) → ((k : ℕ) → k < n → f k ≡ g k) → each n f ≡ each n g
-unfolding each
-each-same zero f g same = refl
-each-same (suc n) f g same = ap₂ _++_ (each-same n f g (λ k b. same k (omega arith))) (same n (omega arith))

@@ -42,8 +42,3 @@ goesOn (f ∷ more) = code " " ∷ (bytesOf f ++ goesOn more)
 -- a line begins with a word
 abbrev pub line : String → List Field → List ℕ
 line first rest = bytes first ++ goesOn rest
-
--- f 0, f 1, .., f (n − 1), one behind the other
-unfoldable pub each : ℕ → (ℕ → List ℕ) → List ℕ
-each zero f = []
-each (suc n) f = each n f ++ f n

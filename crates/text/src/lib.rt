@@ -4,7 +4,7 @@ ghost use Prim.Native.Nat.{_%_};
 ghost use mathlib.Core.List.{[], _∷_, _++_};
 ghost use mathlib.Core.Path.{_≡_};
 ghost use Rattle.text.specs.Line.{decimal, digit};
-ghost use Rattle.text.specs.Page.{added, page};
+ghost use Rattle.page.specs.Page.{added, page};
 
 const ZERO: u8 = b'0';
 

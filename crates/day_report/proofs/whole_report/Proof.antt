@@ -2,7 +2,7 @@
 use lib.Seq.{length-take-le}
 use mathlib.Core.Path.{sym}
 use Rattle.report.proofs.LengthLaws.{report-whole}
-use Rattle.text.proofs.PageLaws.{added-within}
+use Rattle.page.proofs.PageLaws.{added-within}
 use Rattle.day_report.proofs.whole_report.Statement.{statement}
 use Rattle.day_report.proofs.whole_report.Tie as tie
 

@@ -1,16 +1,15 @@
 -- `report::accepted` meets its promise: the parts of the report are added one behind the other.
 use Prim.Native.Nat.{ℕ}
-use lib.ListN.{getD, length}
-use mathlib.Core.Path.{ap, ap₂, _∙_}
+use lib.ListN.{getD}
+use mathlib.Core.Path.{ap, ap₂}
 use native.Mathlib.Omega.{arith}
 use Rattle.books.proofs.Accepted.{frame-read, servers-read}
 use Rattle.clock.specs.declared.Length.{Length}
 use Rattle.report.specs.DayReport.{admittedLine, serverLine}
 use Rattle.report.proofs.ReportLaws.{ends-long, report-told}
 use Rattle.summary.specs.Summary.{blank}
-use Rattle.text.specs.Line.{each}
-use Rattle.text.specs.Page.{Page}
-use Rattle.text.proofs.PageLaws.{added-as, added-length}
+use Rattle.page.specs.Page.{each}
+use Rattle.page.proofs.PageLaws.{added-as, added-kept}
 use Rattle.report.proofs.accepted.Statement.{statement}
 use Rattle.report.proofs.accepted.Tie as tie
 
@@ -58,7 +57,7 @@ returns c =
     (added-as _ (ap (λ (n : ℕ). each n (λ i. serverLine i (getD (start .args .records) i blank))) (servers-read _ read)) (servers .server-lines .ensures))
 
 same-length : tie.Need-same-length
-same-length c = ap (λ (p : Page). length (p .text)) (returns c) ∙ added-length _ _
+same-length c = added-kept _ _ (returns c)
 
 pub accepted-spec : {M : Type 1} → statement M
 accepted-spec =

@@ -3,13 +3,12 @@ use Prim.Native.Nat.{ℕ}
 use borrow.Author.Needs.{needs}
 use lib.ListN.{length}
 use mathlib.Core.List.{List}
-use mathlib.Core.Path.{_≡_, sym, _∙_, ap}
+use mathlib.Core.Path.{_≡_, sym}
 use Rattle.report.proofs.RanLaws.{ran-told, report-accepted, report-refused, Left}
 use Rattle.run.specs.declared.Ran.{Ran}
 use Rattle.run.specs.Outcome.{outcome, runSays}
 use Rattle.sizes.specs.Sizes.{mostArrivals, traceNumbers}
-use Rattle.text.specs.Page.{Page}
-use Rattle.text.proofs.PageLaws.{added-as, added-length}
+use Rattle.page.proofs.PageLaws.{added-as, added-kept}
 use Rattle.report.proofs.day_report.Statement.{statement}
 use Rattle.report.proofs.day_report.Tie as tie
 
@@ -67,7 +66,7 @@ returns c =
     (report .accepted .ensures)
 
 same-length : tie.Need-same-length
-same-length c = ap (λ (p : Page). length (p .text)) (returns c) ∙ added-length _ _
+same-length c = added-kept _ _ (returns c)
 
 returns-2 : tie.Need-returns-2
 returns-2 c =
@@ -80,7 +79,7 @@ returns-2 c =
     (line .refused .ensures)
 
 same-length-2 : tie.Need-same-length-2
-same-length-2 c = ap (λ (p : Page). length (p .text)) (returns-2 c) ∙ added-length _ _
+same-length-2 c = added-kept _ _ (returns-2 c)
 
 pub day-report-spec : {M : Type 1} → statement M
 day-report-spec =

@@ -1,6 +1,6 @@
 -- `report::job_lines` meets its promise: after k turns the lines of the first k jobs are added.
 use Prim.Native.Nat.{_-_, _≤_, _<_}
-use lib.ListN.{length, getD}
+use lib.ListN.{getD}
 use mathlib.Core.Path.{_≡_, _∙_, ap}
 use native.Mathlib.Omega.{arith}
 use Rattle.arrival.specs.declared.Arrival.{Arrival}
@@ -8,9 +8,8 @@ use Rattle.books.proofs.Accepted.{arrival-read, arrivals-read}
 use Rattle.finish.specs.Finish.{finishOf}
 use Rattle.report.specs.DayReport.{jobWith}
 use Rattle.report.specs.working.AfterRun.{jobIn}
-use Rattle.text.specs.Line.{each}
-use Rattle.text.specs.Page.{Page, page, added}
-use Rattle.text.proofs.PageLaws.{added-as, added-length, each-none, each-next, each-all}
+use Rattle.page.specs.Page.{page, added, each}
+use Rattle.page.proofs.PageLaws.{added-as, added-kept, each-none, each-next, each-all}
 use Rattle.workfile.specs.Work.{work}
 use Rattle.report.proofs.job_lines.Statement.{statement}
 use Rattle.report.proofs.job_lines.Tie as tie
@@ -63,7 +62,7 @@ loop-again c =
     )
 
 same-length : tie.Need-same-length Inv-loop μ-loop
-same-length c = ap (λ (p : Page). length (p .text)) (c .before .loop .inv .1) ∙ added-length _ _
+same-length c = added-kept _ _ (c .before .loop .inv .1)
 
 returns : tie.Need-returns Inv-loop μ-loop
 returns c =

@@ -1,14 +1,13 @@
 -- `report::server_lines` meets its promise: after i turns the lines of the first i servers are added.
 use Prim.Native.Nat.{_-_, _≤_}
 use borrow.Author.Needs.{needs}
-use lib.ListN.{length, getD}
-use mathlib.Core.Path.{_≡_, _∙_, ap}
+use lib.ListN.{getD}
+use mathlib.Core.Path.{_≡_}
 use native.Mathlib.Omega.{arith}
 use Rattle.report.specs.DayReport.{serverLine}
 use Rattle.summary.specs.Summary.{blank}
-use Rattle.text.specs.Line.{each}
-use Rattle.text.specs.Page.{Page, page, added}
-use Rattle.text.proofs.PageLaws.{added-length, each-none, each-next, each-all}
+use Rattle.page.specs.Page.{page, added, each}
+use Rattle.page.proofs.PageLaws.{added-kept, each-none, each-next, each-all}
 use Rattle.report.proofs.server_lines.Statement.{statement}
 use Rattle.report.proofs.server_lines.Tie as tie
 
@@ -45,7 +44,7 @@ loop-again c =
     )
 
 same-length : tie.Need-same-length Inv-loop μ-loop
-same-length c = ap (λ (p : Page). length (p .text)) (c .before .loop .inv .1) ∙ added-length _ _
+same-length c = added-kept _ _ (c .before .loop .inv .1)
 
 returns : tie.Need-returns Inv-loop μ-loop
 returns c = each-all _ _ _ _ _ (c .before .loop .inv .0) (c .loop-test .left) (c .before .loop .inv .1)

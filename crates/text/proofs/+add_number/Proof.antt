@@ -3,15 +3,14 @@
 use Prim.Native.Nat.{ℕ, _%_, _<_}
 use borrow.Fn.Kinds.{In}
 use borrow.Fn.PlainCycle.{Measures, is, falls, and}
-use lib.ListN.{length}
 use mathlib.Core.List.{[], _∷_}
 use mathlib.Core.Logic.{⊎-elim}
 use mathlib.Core.Path.{_≡_, sym, _∙_, ap, ap₂}
 use native.Mathlib.Omega.{arith}
 use Rattle.text.specs.Line.{digit, decimal}
 use Rattle.text.proofs.LineLaws.{decimal-last, decimal-more}
-use Rattle.text.specs.Page.{Page, page, added}
-use Rattle.text.proofs.PageLaws.{added-as, added-length, added-then}
+use Rattle.page.specs.Page.{Page, page, added}
+use Rattle.page.proofs.PageLaws.{added-as, added-kept, added-then}
 use Rattle.text.proofs.add_number.Reads as add-number
 use Rattle.text.proofs.add_number.Kinds as add-number-kinds
 use Rattle.text.proofs.+add_number.Lts-add_number as lts
@@ -57,7 +56,7 @@ module _ (t : ℕ) where
       (byte-as _ (one .last-digit .ensures) (c .before .before .add-byte .ensures))
 
   same-length : lts.Need-same-length calls (given t) add-number.Post
-  same-length c = ap (λ (p : Page). length (p .text)) (returns c) ∙ added-length _ _
+  same-length c = added-kept _ _ (returns c)
 
   falls-to-a-hundredth : lts.Need-add-number-requires calls (given t) add-number.Post
   falls-to-a-hundredth c κs =
@@ -91,7 +90,7 @@ module _ (t : ℕ) where
       (added-then _ _ _ tenth (byte-as _ (last .last-digit3 .ensures) (c .before .before .add-byte3 .ensures)))
 
   same-length-2 : lts.Need-same-length-2 calls (given t) add-number.Post
-  same-length-2 c = ap (λ (p : Page). length (p .text)) (returns-2 c) ∙ added-length _ _
+  same-length-2 c = added-kept _ _ (returns-2 c)
 
 pub +add-number-spec : {M : Type 1} → statement M
 +add-number-spec =

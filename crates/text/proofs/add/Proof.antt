@@ -2,10 +2,10 @@
 use Prim.Native.Nat.{_-_, _≤_}
 use borrow.Author.Needs.{needs}
 use lib.ListN.{length, take}
-use mathlib.Core.Path.{_≡_, sym, _∙_, ap}
+use mathlib.Core.Path.{_≡_, sym}
 use native.Mathlib.Omega.{arith}
-use Rattle.text.specs.Page.{Page, page, added}
-use Rattle.text.proofs.PageLaws.{added-none, added-next, added-all, added-length}
+use Rattle.page.specs.Page.{page, added}
+use Rattle.page.proofs.PageLaws.{added-none, added-next, added-all, added-kept}
 use Rattle.text.proofs.add.Statement.{statement}
 use Rattle.text.proofs.add.Tie as tie
 
@@ -38,7 +38,7 @@ loop-again c =
     (omega (arith, more), added-next _ (l .k) _ _ _ more (l .inv .1) (c .before .before .add-byte .ensures))
 
 same-length : tie.Need-same-length Inv-loop μ-loop
-same-length c = ap length (ap (λ (p : Page). p .text) (c .before .loop .inv .1)) ∙ added-length _ _
+same-length c = added-kept _ _ (c .before .loop .inv .1)
 
 returns : tie.Need-returns Inv-loop μ-loop
 returns c = added-all _ _ _ _ (c .loop-test .left) (c .before .loop .inv .1)

@@ -1,6 +1,6 @@
 -- `text::add_byte` meets its promise: the one test asks whether there is room.
 use borrow.Author.Needs.{needs}
-use Rattle.text.proofs.PageLaws.{added-byte, added-full}
+use Rattle.page.proofs.PageLaws.{added-room, added-full}
 use Rattle.text.proofs.add_byte.Statement.{statement}
 use Rattle.text.proofs.add_byte.Tie as tie
 
@@ -14,7 +14,7 @@ same-length : tie.Need-same-length
 same-length c = search needs
 
 returns : tie.Need-returns
-returns c = added-byte _ _ _ (c .if1 .taken)
+returns c = added-room _ _ _ (c .if1 .taken)
 
 returns-2 : tie.Need-returns-2
 returns-2 c = added-full _ _ _ (c .if1 .left)

@@ -1,6 +1,6 @@
 -- `text::add_numbered` meets its promise: one behind the other.
 use borrow.Author.Needs.{needs}
-use Rattle.text.proofs.PageLaws.{added-then}
+use Rattle.page.proofs.PageLaws.{added-then}
 use Rattle.text.proofs.add_numbered.Statement.{statement}
 use Rattle.text.proofs.add_numbered.Tie as tie
 

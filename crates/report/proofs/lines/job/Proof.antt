@@ -1,6 +1,5 @@
 -- `report::lines::job` meets its promise: the number, the server and the moment, and then what the one test tells: whether the finish list's
 -- number stands for an open job.
-use lib.ListN.{length}
 use mathlib.Core.List.{[], _∷_}
 use mathlib.Core.Path.{refl, sym, _∙_, ap}
 use Rattle.clock.specs.declared.Length.{Length}
@@ -8,8 +7,7 @@ use Rattle.finish.specs.Finish.{Finish}
 use Rattle.finish.proofs.ListLaws.{finish-of-open, finish-of-at}
 use Rattle.report.specs.DayReport.{finishFields}
 use Rattle.text.specs.Line.{number, goesOn}
-use Rattle.text.specs.Page.{Page}
-use Rattle.text.proofs.PageLaws.{added-as, added-then, added-two-then, added-length}
+use Rattle.page.proofs.PageLaws.{added-as, added-then, added-two-then, added-kept}
 use Rattle.report.proofs.lines.job.Statement.{statement}
 use Rattle.report.proofs.lines.job.Tie as tie
 
@@ -40,7 +38,7 @@ returns c =
     (added-as _ (ap (λ (f : Finish). goesOn (finishFields came f)) (sym (finish-of-open _ (test .if1 .taken)))) (ending .add .ensures)))
 
 same-length : tie.Need-same-length
-same-length c = ap (λ (p : Page). length (p .text)) (returns c) ∙ added-length _ _
+same-length c = added-kept _ _ (returns c)
 
 until-requires : tie.Need-until-requires
 until-requires c κs = tt
@@ -64,7 +62,7 @@ returns-2 c =
     (ending .last-pair .ensures)))
 
 same-length-2 : tie.Need-same-length-2
-same-length-2 c = ap (λ (p : Page). length (p .text)) (returns-2 c) ∙ added-length _ _
+same-length-2 c = added-kept _ _ (returns-2 c)
 
 pub job-spec : {M : Type 1} → statement M
 job-spec =

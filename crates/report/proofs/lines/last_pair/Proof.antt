@@ -1,8 +1,5 @@
 -- `report::lines::last_pair` meets its promise: the two numbers, and a line feed behind them.
-use lib.ListN.{length}
-use mathlib.Core.Path.{_∙_, ap}
-use Rattle.text.specs.Page.{Page}
-use Rattle.text.proofs.PageLaws.{added-two-then, added-length}
+use Rattle.page.proofs.PageLaws.{added-two-then, added-kept}
 use Rattle.report.proofs.lines.last_pair.Statement.{statement}
 use Rattle.report.proofs.lines.last_pair.Tie as tie
 
@@ -19,7 +16,7 @@ returns c =
     added-two-then _ _ _ _ (numbers .pair .ensures) (end .add-byte .ensures)
 
 same-length : tie.Need-same-length
-same-length c = ap (λ (p : Page). length (p .text)) (returns c) ∙ added-length _ _
+same-length c = added-kept _ _ (returns c)
 
 pub last-pair-spec : {M : Type 1} → statement M
 last-pair-spec = tie.close (tie.spec pair-requires add-byte-requires same-length returns)

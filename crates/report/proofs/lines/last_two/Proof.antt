@@ -1,11 +1,9 @@
 -- `report::lines::last_two` meets its promise: the two numbers with their words, and a line feed behind them.
 use Prim.Native.Nat.{ℕ}
-use lib.ListN.{length}
 use mathlib.Core.List.{List, [], _++_, append-assoc}
-use mathlib.Core.Path.{_≡_, _∙_, ap}
+use mathlib.Core.Path.{_≡_}
 use Rattle.text.specs.Line.{decimal, goesOn}
-use Rattle.text.specs.Page.{Page}
-use Rattle.text.proofs.PageLaws.{added-as, added-two-then, added-length}
+use Rattle.page.proofs.PageLaws.{added-as, added-two-then, added-kept}
 use Rattle.report.proofs.lines.last_two.Statement.{statement}
 use Rattle.report.proofs.lines.last_two.Tie as tie
 
@@ -26,7 +24,7 @@ returns c =
     added-as _ (in-turn (args .words .now) (decimal (args .n)) (args .more .now) (decimal (args .m)) (goesOn [])) (added-two-then _ _ _ _ (numbers .two .ensures) (end .add-byte .ensures))
 
 same-length : tie.Need-same-length
-same-length c = ap (λ (p : Page). length (p .text)) (returns c) ∙ added-length _ _
+same-length c = added-kept _ _ (returns c)
 
 pub last-two-spec : {M : Type 1} → statement M
 last-two-spec = tie.close (tie.spec two-requires add-byte-requires same-length returns)

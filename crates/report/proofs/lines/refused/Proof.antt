@@ -1,9 +1,7 @@
 -- `report::lines::refused` meets its promise: the number and the place are as the table gives them.
-use lib.ListN.{length}
-use mathlib.Core.Path.{refl, ap₂, _∙_, ap}
+use mathlib.Core.Path.{refl, ap₂}
 use Rattle.report.specs.DayReport.{refusedLine}
-use Rattle.text.specs.Page.{Page}
-use Rattle.text.proofs.PageLaws.{added-as, added-length}
+use Rattle.page.proofs.PageLaws.{added-as, added-kept}
 use Rattle.report.proofs.lines.refused.Statement.{statement}
 use Rattle.report.proofs.lines.refused.Tie as tie
 
@@ -29,7 +27,7 @@ returns c =
     added-as _ (ap₂ refusedLine (place .before .number .ensures) (place .place .ensures)) (line .last-two .ensures)
 
 same-length : tie.Need-same-length
-same-length c = ap (λ (p : Page). length (p .text)) (returns c) ∙ added-length _ _
+same-length c = added-kept _ _ (returns c)
 
 pub refused-spec : {M : Type 1} → statement M
 refused-spec =

@@ -5,8 +5,8 @@ use mathlib.Core.Path.{refl, sym, _∙_, ap}
 use Rattle.report.specs.DayReport.{totalField, longestField}
 use Rattle.summary.specs.declared.Response.{Response}
 use Rattle.text.specs.Line.{bytes, bytesOf}
-use Rattle.text.specs.Page.{Page, added}
-use Rattle.text.proofs.PageLaws.{added-both}
+use Rattle.page.specs.Page.{Page, added}
+use Rattle.page.proofs.PageLaws.{added-both}
 use Rattle.report.proofs.lines.responses.Statement.{statement}
 use Rattle.report.proofs.lines.responses.Tie as tie
 

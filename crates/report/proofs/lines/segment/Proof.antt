@@ -1,7 +1,7 @@
 -- `report::lines::segment` meets its promise: its parts one behind the other are the line.
 use borrow.Author.Needs.{needs}
 use mathlib.Core.Path.{refl}
-use Rattle.text.proofs.PageLaws.{added-then, added-two-then}
+use Rattle.page.proofs.PageLaws.{added-then, added-two-then}
 use Rattle.report.proofs.lines.segment.Statement.{statement}
 use Rattle.report.proofs.lines.segment.Tie as tie
 

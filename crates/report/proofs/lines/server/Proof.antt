@@ -1,9 +1,7 @@
 -- `report::lines::server` meets its promise: its parts one behind the other are the line.
-use lib.ListN.{length}
-use mathlib.Core.Path.{refl, _∙_, ap}
+use mathlib.Core.Path.{refl}
 use Rattle.report.specs.DayReport.{serverLine}
-use Rattle.text.specs.Page.{Page}
-use Rattle.text.proofs.PageLaws.{added-then, added-two-then, added-length}
+use Rattle.page.proofs.PageLaws.{added-then, added-two-then, added-kept}
 use Rattle.report.proofs.lines.server.Statement.{statement}
 use Rattle.report.proofs.lines.server.Tie as tie
 
@@ -47,7 +45,7 @@ returns c =
     (last .last-two .ensures)))
 
 same-length : tie.Need-same-length
-same-length c = ap (λ (p : Page). length (p .text)) (returns c) ∙ added-length _ _
+same-length c = added-kept _ _ (returns c)
 
 pub server-spec : {M : Type 1} → statement M
 server-spec =

@@ -1,7 +1,7 @@
 -- `report::lines::two` meets its promise: one behind the other.
 use borrow.Author.Needs.{needs}
 use mathlib.Core.Path.{_∙_, ap}
-use Rattle.text.specs.Page.{added}
+use Rattle.page.specs.Page.{added}
 use Rattle.report.proofs.lines.two.Statement.{statement}
 use Rattle.report.proofs.lines.two.Tie as tie
 

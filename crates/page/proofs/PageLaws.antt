@@ -7,8 +7,11 @@ use mathlib.Core.Path.{_≡_, refl, sym, _∙_, ap, ap₂}
 use native.Mathlib.Nat.{le-antisymm, le-of-suc-le-suc, not-suc-le-zero}
 use native.Mathlib.Numerals.{add-one}
 use native.Mathlib.Omega.{arith}
-use Rattle.text.specs.Line.{each}
-use Rattle.text.specs.Page.{Page, page, over, added}
+use Rattle.page.specs.Page.{Page, page, over, added, each}
+
+-- two pages that are one have one next place and one list
+pub page-apart : {p q : Page} → p ≡ q → (p .next ≡ q .next) × (p .list ≡ q .list)
+page-apart e = (ap (λ (p : Page). p .next) e, ap (λ (p : Page). p .list) e)
 
 over-empty : (m : List ℕ) → over m [] ≡ []
 unfolding over
@@ -21,7 +24,7 @@ over-length [] list = refl
 over-length (b ∷ m) [] = refl
 over-length (b ∷ m) (a ∷ list) = ap suc (over-length m list)
 
--- the first bytes, and the others behind as many of them as fit
+-- the first, and the others behind as many of them as fit
 over-both : (a b list : List ℕ)
     → take (min (length a) (length list)) (over a list) ++ over b (drop (min (length a) (length list)) (over a list)) ≡ over (a ++ b) list
 unfolding over
@@ -39,7 +42,7 @@ over-both (x ∷ a) b (y ∷ list) =
     more : min (suc (length a)) (suc (length list)) ≡ suc (min (length a) (length list))
     more = omega arith
 
--- the text of a page with bytes added from a place on
+-- the list of a page with more added from a place on
 abbrev laid : List ℕ → ℕ → List ℕ → List ℕ
 laid m at list = take at list ++ over m (drop at list)
 
@@ -69,19 +72,23 @@ laid-length m list at =
     ∙ sym (length-append (take at list) (drop at list))
     ∙ ap length (take-append-drop at list)
 
-pub added-length : (m : List ℕ) (p : Page) → length (added m p .text) ≡ length (p .text)
+-- no list gets longer or shorter
+added-length : (m : List ℕ) (p : Page) → length (added m p .list) ≡ length (p .list)
 unfolding added
-added-length m p = laid-length m (p .text) (p .next)
+added-length m p = laid-length m (p .list) (p .next)
+
+pub added-kept : (m : List ℕ) (p : Page) {q : Page} → q ≡ added m p → length (q .list) ≡ length (p .list)
+added-kept m p e = ap (λ (r : Page). length (r .list)) e ∙ added-length m p
 
 pub added-none : (p : Page) → added [] p ≡ p
 unfolding added over
-added-none p = ap₂ page (take-append-drop (p .next) (p .text)) (omega arith)
+added-none p = ap₂ page (take-append-drop (p .next) (p .list)) (omega arith)
 
 pub added-both : (a b : List ℕ) (p : Page) → added b (added a p) ≡ added (a ++ b) p
 unfolding added
 added-both a b p =
-    ap₂ page (laid-both a b (p .text) (p .next))
-    (omega (arith, laid-length a (p .text) (p .next), length-append a b))
+    ap₂ page (laid-both a b (p .list) (p .next))
+    (omega (arith, laid-length a (p .list) (p .next), length-append a b))
 
 pub added-then : (a b : List ℕ) (p : Page) {q r : Page} → q ≡ added a p → r ≡ added b q → r ≡ added (a ++ b) p
 added-then a b p first second = second ∙ ap (added b) first ∙ added-both a b p
@@ -93,7 +100,7 @@ added-two-then a b c p two third = added-then a (b ++ c) p refl (added-then b c 
 pub added-as : (p : Page) {q : Page} {a b : List ℕ} → a ≡ b → q ≡ added a p → q ≡ added b p
 added-as p same first = first ∙ ap (λ (m : List ℕ). added m p) same
 
--- one byte more of a list
+-- one more of a list
 pub added-next : (m : List ℕ) (k : ℕ) (p q r : Page) → k < length m → q ≡ added (take k m) p → r ≡ added (getD m k 0 ∷ []) q
     → r ≡ added (take (k + 1) m) p
 added-next m k p q r h first second =
@@ -118,10 +125,10 @@ each-next f k p q r first second =
 pub each-all : (f : ℕ → List ℕ) (k n : ℕ) (p q : Page) → k ≤ n → n ≤ k → q ≡ added (each k f) p → q ≡ added (each n f) p
 each-all f k n p q a b first = added-as p (ap (λ (m : ℕ). each m f) (le-antisymm a b)) first
 
--- one byte where there is room
-pub added-byte : (list : List ℕ) (at b : ℕ) → at < length list → page (set list at b) (at + 1) ≡ added (b ∷ []) (page list at)
+-- one where there is room
+pub added-room : (list : List ℕ) (at b : ℕ) → at < length list → page (set list at b) (at + 1) ≡ added (b ∷ []) (page list at)
 unfolding added over
-added-byte list at b h =
+added-room list at b h =
     ap₂ page (set-split list at b h ∙ ap (λ (l : List ℕ). take at list ++ over (b ∷ []) l) (sym (drop-cons list at 0 h))) (omega arith)
 
 -- and where there is none
@@ -134,18 +141,18 @@ added-full m list at h =
     past : (l : List ℕ) (n : ℕ) → length l ≤ n → drop n l ≡ []
     past l n h = drop-of-length-le l {i = n} h
 
--- what is added from the start on lies within the text
+-- what is added from the start on lies within the list
 pub added-within : (m before after : List ℕ) (next : ℕ) → page after next ≡ added m (page before 0) → next ≤ length after
 unfolding added
 added-within m before after next e =
     omega (
       arith,
       ap (λ (p : Page). p .next) e,
-      ap (λ (p : Page). length (p .text)) e,
+      ap (λ (p : Page). length (p .list)) e,
       laid-length m before 0,
     )
 
--- and where there is room for all of it, it is what the text then begins with
+-- and where there is room for all of it, it is what the list then begins with
 over-whole : (m list : List ℕ) → length m ≤ length list → take (length m) (over m list) ≡ m
 unfolding over
 over-whole [] list h = refl
@@ -156,7 +163,7 @@ pub added-whole : (m before after : List ℕ) (next : ℕ) → length m ≤ leng
     → take next after ≡ m
 unfolding added
 added-whole m before after next room e =
-    ap₂ take (ap (λ (p : Page). p .next) e ∙ all) (ap (λ (p : Page). p .text) e) ∙ over-whole m before room
+    ap₂ take (ap (λ (p : Page). p .next) e ∙ all) (ap (λ (p : Page). p .list) e) ∙ over-whole m before room
   where
     all : 0 + min (length m) (length before - 0) ≡ length m
     all = omega arith

@@ -1,0 +1,3 @@
+pub mod EachLaws
+pub mod PageLaws
+pub mod Promises
