@@ -1,3 +1,4 @@
 pub mod AdmissionLaws
 pub mod Promises
 pub mod ShareLaws
+pub mod SheetLaws

@@ -1,6 +1,6 @@
 -- Laws of a booking's faults and share.
 use Prim.Native.Nat.{ℕ, zero, suc, _*_, _/_, _%_, _≤_}
-use borrow.Author.Tests.{eqb-true, eqb-false, ltb-false, not-false}
+use borrow.Author.Tests.{eqb-true, eqb-false, eq-eqb, ne-eqb, le-ltb, ltb-false, not-false}
 use lib.Dec.{eqb}
 use mathlib.Core.Bool.{Bool, true, false}
 use mathlib.Core.Path.{_≡_, refl, ap}
@@ -26,6 +26,16 @@ sound H b e =
       fits = ltb-false _ _ (tests .3);
       divides = omega (arith, div-add-mod (H .ticks) (b .period .ticks));
     }
+
+-- and a booking that has it has no fault
+pub sound-unfaulty : (H : Length) (b : Booking) → Sound H b → faultyBooking H b ≡ false
+sound-unfaulty H b s =
+    rw (
+      ne-eqb (b .period .ticks) 0 (λ e. omega (arith, s .budget, s .fits)),
+      eq-eqb (H .ticks % b .period .ticks) 0 (omega (arith, s .divides, div-add-mod (H .ticks) (b .period .ticks))),
+      ne-eqb (b .budget .ticks) 0 (λ e. omega (arith, s .budget)),
+      le-ltb (b .period .ticks) (b .budget .ticks) (s .fits),
+    )
 
 -- Where T divides H the share is exact: share × T = Q × H. It is Q/T of the frame, with nothing rounded, which is why the rules may add
 -- shares where the sources add fractions.

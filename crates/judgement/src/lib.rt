@@ -66,20 +66,13 @@ fn admit(file: &[u8], h: Header) -> Verdict
     ensures { λ r. ⌜ onPaper r ≡ admission (h .frame) (workUnder h (now (file .entry)) .table) ⌝ }
 {
     let servers = h.servers.count;
-    let mut sum = 0;
+    let mut sheet = booking::blank_sheet(h.frame);
     let mut k = 0;
     while k < servers {
-        let found = booking::share_of(h.frame, listing::booking_of(file, h, k));
-        if found.faulty {
-            return Verdict::Refused(Refusal::FaultyServer(k));
-        }
-        sum += found.share.ticks;
+        sheet = booking::enter(sheet, k, listing::booking_of(file, h, k));
         k += 1;
     }
-    if h.frame.ticks < sum {
-        return Verdict::Refused(Refusal::Shares);
-    }
-    Verdict::Accepted
+    booking::admit(sheet)
 }
 
 // The test for 1.

@@ -40,20 +40,13 @@ fn judge(table: &[u64], frame: Length) -> Verdict
         return Verdict::Refused(Refusal::Sizes);
     }
     let count = table.len() / 2;
-    let mut sum = 0;
+    let mut sheet = booking::blank_sheet(frame);
     let mut k = 0;
     while k < count {
-        let found = booking::share_of(frame, booking_at(table, k));
-        if found.faulty {
-            return Verdict::Refused(Refusal::FaultyServer(k));
-        }
-        sum += found.share.ticks;
+        sheet = booking::enter(sheet, k, booking_at(table, k));
         k += 1;
     }
-    if frame.ticks < sum {
-        return Verdict::Refused(Refusal::Shares);
-    }
-    Verdict::Accepted
+    booking::admit(sheet)
 }
 
 // Whether the frame, the count of numbers or the count of servers is out of range.

@@ -82,14 +82,13 @@ fn shares(file: &[u8]) -> Length
 {
     let h = workfile::header_of(file);
     let servers = h.servers.count;
-    let mut sum = 0;
+    let mut sheet = booking::blank_sheet(h.frame);
     let mut k = 0;
     while k < servers {
-        let found = booking::share_of(h.frame, listing::booking_of(file, h, k));
-        sum += found.share.ticks;
+        sheet = booking::enter(sheet, k, listing::booking_of(file, h, k));
         k += 1;
     }
-    Length { ticks: sum }
+    sheet.sum
 }
 
 // The lines of the first segments of a trace list.
