@@ -1,4 +1,5 @@
 pub mod HeldLaws
+pub mod NumbersLaws
 pub mod Promises
 pub mod SegmentLaws
 pub mod StretchLaws

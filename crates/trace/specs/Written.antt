@@ -1,12 +1,12 @@
 -- The lent trace list (document 01): "Four 64-bit numbers: start, length, server, deadline"; it "holds the first of them, as many
 -- whole segments as fit; every later place is untouched."
-use Prim.Native.Nat.{ℕ, _+_, _-_, _*_, _/_, min}
-use lib.Dec.{leb, ltb}
+use Prim.Native.Nat.{ℕ, _+_, _*_, _/_, min}
+use lib.Dec.{leb}
 use lib.ListN.{length, getD}
-use mathlib.Core.Bool.{cond, _&&_}
+use mathlib.Core.Bool.{cond}
 use mathlib.Core.List.{List, [], _∷_, _++_}
 use Rattle.clock.specs.Clock.{moment, ticks}
-use Rattle.counting.specs.Places.{places}
+use Rattle.page.specs.Page.{page, added}
 use Rattle.trace.specs.declared.Segment.{Segment}
 
 -- "Four 64-bit numbers: start, length, server, deadline"
@@ -34,10 +34,6 @@ segmentOf a k i d = record { start = moment a; length = ticks k; server = i; dea
 abbrev pub segmentIn : List ℕ → ℕ → Segment
 segmentIn list k = segmentOf (getD list (4 * k) 0) (getD list (4 * k + 1) 0) (getD list (4 * k + 2) 0) (getD list (4 * k + 3) 0)
 
--- place p of a list with segment k in its four places, from 4 × k on; any other place is untouched
-abbrev pub placed : ℕ → Segment → List ℕ → ℕ → ℕ
-placed k s list p = cond (leb (4 * k) p && ltb p (4 * k + 4)) (getD (numbers s) (p - 4 * k) 0) (getD list p 0)
-
--- that list, where it has all four; where it has not, the list as it was
+-- a list with segment k in its four places, from 4 × k on, where it has all four, and any other place untouched; where it has not, as it was
 unfoldable pub put : ℕ → Segment → List ℕ → List ℕ
-put k s list = cond (leb (4 * k + 4) (length list)) (places (length list) (placed k s list)) list
+put k s list = cond (leb (4 * k + 4) (length list)) (added (numbers s) (page list (4 * k)) .list) list
