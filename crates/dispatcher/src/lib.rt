@@ -93,9 +93,8 @@ pub fn tick(d: Dispatcher) -> Ticked
 
 // The tick as server i's.
 fn run(d: Dispatcher, i: usize) -> Ticked
-    requires { ⌜ Within d ⌝ }
+    requires { ⌜ Within d × Earliest d (d .count) i ⌝ }
     requires { ⌜ d .clock .tick < clockEnd ⌝ }
-    requires { ⌜ Earliest d (d .count) i ⌝ }
     ensures { λ r. ⌜ tickSays r ≡ ran d i ⌝ }
 {
     let s = places::server_at(d, i);

@@ -1,21 +1,20 @@
 -- The judgement of a file case by case, and what a header has that passes 2 and 3.
-use Prim.Native.Nat.{ℕ, _<_, _≤_, _+_, _*_}
+use Prim.Native.Nat.{ℕ, _≤_, _+_, _*_}
 use borrow.Author.Tests.{ltb-false}
 use lib.Dec.{ltb}
-use lib.ListN.{getD, length}
+use lib.ListN.{length}
 use mathlib.Core.Bool.{true, false, _||_}
 use mathlib.Core.List.{List}
 use mathlib.Core.Path.{_≡_}
 use Rattle.booking.specs.Admission.{admission}
 use Rattle.counting.proofs.TestLaws.{none-of-three}
-use Rattle.numbers.proofs.WordLaws.{word-fits}
 use Rattle.refusal.specs.Refusals.{refused, accepted}
 use Rattle.sizes.specs.Sizes.{clockEnd, headerBytes, mostFrame, arrivalBytes, serverBytes}
 use Rattle.workfile.specs.Layout.{header}
 use Rattle.workfile.specs.Work.{Work, workUnder, work}
 use Rattle.workfile.specs.declared.Header.{Header}
 use Rattle.judgement.specs.Judgement.{lengthOutOfRange, sizesOutOfRange, layoutBroken, workJudged, judged}
-use Rattle.judgement.specs.working.Header.{listJudged, Sized, Narrow}
+use Rattle.judgement.specs.working.Header.{listJudged, Sized}
 
 pub sized : (h : Header) → sizesOutOfRange h ≡ false → Sized h
 sized h e =
@@ -29,11 +28,6 @@ sized h e =
       servers = ltb-false _ _ (counts .1);
       arrivals = ltb-false _ _ (counts .2);
     }
-
-pub narrow : (file : List ℕ) (h : Header) → h ≡ header file → ((i : ℕ) → getD file i 0 < 256) → Narrow h
-unfolding header
-narrow file h read byte =
-    record { servers = rw read (word-fits file 12 byte); arrivals = rw read (word-fits file 20 byte) }
 
 -- what a header has beside so many bytes that is not refused by 3
 pub record Laid (h : Header) (bytes : ℕ) : Type 0 where

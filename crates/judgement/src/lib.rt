@@ -4,7 +4,7 @@ ghost use Rattle.booking.specs.Admission.{admission};
 ghost use Rattle.refusal.specs.Refusals.{onPaper};
 ghost use Rattle.workfile.specs.Work.{workUnder};
 ghost use Rattle.judgement.specs.Judgement.{lengthOutOfRange, sizesOutOfRange, layoutBroken, judged};
-ghost use Rattle.judgement.specs.working.Header.{Sized, Narrow, listJudged};
+ghost use Rattle.judgement.specs.working.Header.{Sized, listJudged};
 use refusal::Refusal;
 use refusal::Verdict;
 use workfile::Header;
@@ -106,16 +106,13 @@ fn is_size_out_of_range(h: Header) -> bool
 
 // The test for 3. Offsets and lengths are added in 64 bits, which hold the sums of what passes 2.
 fn is_layout_broken(h: Header, bytes: usize) -> bool
-    requires { ⌜ Sized h × Narrow h ⌝ }
     ensures { λ r. ⌜ r ≡ layoutBroken h bytes ⌝ }
 {
-    let servers = h.servers.offset;
-    let arrivals = h.arrivals.offset;
-    if servers < sizes::HEADER_BYTES {
+    if h.servers.offset < sizes::HEADER_BYTES {
         return true;
     }
-    if arrivals < servers + sizes::SERVER_BYTES * h.servers.count {
+    if listing::bookings_beyond(h, h.arrivals.offset) {
         return true;
     }
-    bytes < arrivals + sizes::ARRIVAL_BYTES * h.arrivals.count
+    listing::arrivals_beyond(h, bytes)
 }

@@ -1,8 +1,10 @@
-// The records of a work file by number: booking k and arrival k of any bytes under any header. At which byte a record starts is told here
-// alone.
+// The records of a work file by number: booking k and arrival k of any bytes under any header. At which byte a record starts, and how far the
+// records of a kind go, is told here alone.
 ghost use mathlib.Core.Path.{_≡_};
-ghost use Prim.Native.Nat.{_*_, _≤_, min};
+ghost use Prim.Native.Nat.{_+_, _*_, _≤_, min};
+ghost use lib.Dec.{ltb};
 ghost use lib.ListN.{length};
+ghost use Rattle.sizes.specs.Sizes.{arrivalBytes, serverBytes};
 ghost use Rattle.workfile.specs.Work.{workUnder};
 use arrival::Arrival;
 use booking::Booking;
@@ -31,6 +33,36 @@ pub fn arrival_of(file: &[u8], h: Header, k: usize) -> Arrival
         h.arrivals.offset,
         bytes_of(file, sizes::ARRIVAL_BYTES, k),
     )
+}
+
+// Whether the server records go on beyond byte `at`.
+pub fn bookings_beyond(h: Header, at: usize) -> bool
+    ensures { λ r. ⌜ r ≡ ltb at (h .servers .offset + serverBytes * h .servers .count) ⌝ }
+{
+    is_beyond(h.servers.offset, sizes::SERVER_BYTES, h.servers.count, at)
+}
+
+// Whether the arrivals do.
+pub fn arrivals_beyond(h: Header, at: usize) -> bool
+    ensures { λ r. ⌜ r ≡ ltb at (h .arrivals .offset + arrivalBytes * h .arrivals .count) ⌝ }
+{
+    is_beyond(
+        h.arrivals.offset,
+        sizes::ARRIVAL_BYTES,
+        h.arrivals.count,
+        at,
+    )
+}
+
+// Whether so many records of so many bytes each go on beyond byte `at`. Divided and not multiplied, so that 64 bits hold every number.
+fn is_beyond(offset: usize, each: usize, count: usize, at: usize) -> bool
+    requires { ⌜ 1 ≤ each ⌝ }
+    ensures { λ r. ⌜ r ≡ ltb at (offset + each * count) ⌝ }
+{
+    if at < offset {
+        return true;
+    }
+    (at - offset) / each < count
 }
 
 // The bytes of k records of so many each, as far as the file goes. Where 64 bits do not hold them they are more than any file has, and those of

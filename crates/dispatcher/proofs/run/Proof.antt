@@ -17,13 +17,13 @@ use Rattle.dispatcher.proofs.run.Tie as tie
 
 -- the server works, has budget left, and is within its ranges
 works : (c : tie.Start) → serverAt (c .args .d) (c .args .i) .waiting .ticks ≡ 0 → ⊥
-works c = eqb-false _ _ (earliest-busy (c .pre .1 .1))
+works c = eqb-false _ _ (earliest-busy (c .pre .0 .1))
 
 charged : (c : tie.Start) → 1 ≤ serverAt (c .args .d) (c .args .i) .remaining .ticks
-charged c = earliest-charged (c .pre .0) (c .pre .1 .1)
+charged c = earliest-charged (c .pre .0 .0) (c .pre .0 .1)
 
 ranged : (c : tie.Start) → Ranged (c .args .d .clock) (serverAt (c .args .d) (c .args .i))
-ranged c = c .pre .0 .servers _ (c .pre .1 .1 .among)
+ranged c = c .pre .0 .0 .servers _ (c .pre .0 .1 .among)
 
 -- one tick is left where one less is none
 last-left : (n : ℕ) → 1 ≤ n → eqb n 1 ≡ eqb (n - 1) 0
@@ -43,7 +43,7 @@ with-server-requires : tie.Need-with-server-requires
 with-server-requires c κs = search needs
 
 pass-requires : tie.Need-pass-requires
-pass-requires c κs = rw (c .with-server .ensures) (c .before .before .before .before .before .pre .1 .0)
+pass-requires c κs = rw (c .with-server .ensures) (c .before .before .before .before .before .pre .1)
 
 returns : tie.Need-returns
 unfolding ran
@@ -54,7 +54,7 @@ returns c =
       c .before .with-server .ensures,
       c .before .before .serve .ensures,
       c .before .before .before .before .before .server-at .ensures,
-      tick-ranged (ranged start) (start .pre .0 .clock) (works start) (charged start),
+      tick-ranged (ranged start) (start .pre .0 .0 .clock) (works start) (charged start),
       last-left _ (charged start),
     )
 

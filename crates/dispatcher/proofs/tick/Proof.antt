@@ -24,11 +24,8 @@ chosen c =
 run-requires : tie.Need-run-requires
 run-requires c κs =
     let ok = c .before .before .before .before .before .pre in (
-      ok,
-      (
-        before-end ok (c .before .before .before .if1 .left),
-        rw (c .before .before .pick .ensures) (picked-earliest _ (chosen c)),
-      ),
+      (ok, rw (c .before .before .pick .ensures) (picked-earliest _ (chosen c))),
+      before-end ok (c .before .before .before .if1 .left),
     )
 
 returns-2 : tie.Need-returns-2

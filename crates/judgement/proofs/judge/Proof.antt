@@ -4,11 +4,10 @@ use borrow.Author.Needs.{needs}
 use lib.ListN.{length}
 use mathlib.Core.Bool.{false}
 use mathlib.Core.Path.{_≡_, sym, _∙_, ap}
-use native.Mathlib.Omega.{arith}
 use Rattle.refusal.specs.Refusals.{onPaper}
 use Rattle.workfile.specs.Work.{workUnder}
 use Rattle.judgement.specs.Judgement.{lengthOutOfRange, sizesOutOfRange, layoutBroken, workJudged, judged}
-use Rattle.judgement.proofs.JudgementLaws.{sized, narrow, judged-length, judged-sizes, judged-layout, judged-work, work-admitted, work-refused}
+use Rattle.judgement.proofs.JudgementLaws.{sized, judged-length, judged-sizes, judged-layout, judged-work, work-admitted, work-refused}
 use Rattle.judgement.proofs.judge.Statement.{statement}
 use Rattle.judgement.proofs.judge.Tie as tie
 
@@ -44,11 +43,7 @@ returns-2 c =
     (sym (c .before .is-size-out-of-range .ensures) ∙ c .if2 .taken))
 
 is-layout-broken-requires : tie.Need-is-layout-broken-requires
-is-layout-broken-requires c κs = (
-  sized _ (in-range c),
-  narrow _ _ (c .before .before .header-of .ensures)
-      (λ i. omega (arith, c .before .before .before .before .before .shared-slice-known .given i)),
-)
+is-layout-broken-requires c κs = search needs
 
 returns-3 : tie.Need-returns-3
 returns-3 c =

@@ -1,5 +1,5 @@
--- What the private functions of the judgement rely on: a header whose sizes and offsets are known, and the rest of the judgement.
-use Prim.Native.Nat.{ℕ, _≤_, _<_}
+-- What the private functions of the judgement rely on: a header whose sizes are known, and the rest of the judgement.
+use Prim.Native.Nat.{ℕ, _≤_}
 use Rattle.refusal.specs.Refusals.{Said, andThen}
 use Rattle.sizes.specs.Sizes.{clockEnd, mostArrivals, mostFrame, mostServers}
 use Rattle.workfile.specs.Work.{Work}
@@ -13,11 +13,6 @@ pub record Sized (h : Header) : Type 0 where
   pub horizon : h .horizon .tick ≤ clockEnd
   pub servers : h .servers .count ≤ mostServers
   pub arrivals : h .arrivals .count ≤ mostArrivals
-
--- its offsets are numbers of 32 bits
-pub record Narrow (h : Header) : Type 0 where
-  pub servers : h .servers .offset < 4_294_967_296
-  pub arrivals : h .arrivals .offset < 4_294_967_296
 
 -- the arrivals in order, then 9
 abbrev pub listJudged : Work → ℕ → Said (Unit {0})
