@@ -1,5 +1,6 @@
 pub mod HeldLaws
 pub mod NumbersLaws
+pub mod PlacedLaws
 pub mod Promises
 pub mod SegmentLaws
 pub mod StretchLaws

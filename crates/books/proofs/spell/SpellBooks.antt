@@ -16,7 +16,6 @@ use Rattle.dispatcher.specs.Within.{Within}
 use Rattle.dispatcher.specs.declared.Dispatcher.{Dispatcher}
 use Rattle.judgement.proofs.FitLaws.{Fit}
 use Rattle.moments.proofs.OneGo.{ranFor, servedFor}
-use Rattle.moments.proofs.OneGoLaws.{served-budget}
 use Rattle.server.specs.Server.{vacant}
 use Rattle.server.specs.declared.Server.{Server}
 use Rattle.sizes.specs.Sizes.{mostServers}
@@ -82,14 +81,10 @@ module _ {r : Run} {h : Here} {b : Book} (fit : Fit (r .work) (length (r .finish
   server : i < mostServers
   server = omega (arith, within .count, pick .among)
 
-  same-budget : spell .after .budget .ticks ≡ s .budget .ticks
-  same-budget =
-      ap (λ (s : Server). s .budget .ticks) (p .after-is) ∙ ap (λ (l : Length). l .ticks) (served-budget s (spell .ticks .ticks))
-
   pub gone-is : g .gone .ticks ≡ spell .ticks .ticks + n * spell .after .budget .ticks
   gone-is = ap (λ (l : Length). l .ticks) (x .leaves .gone-is) ∙ sym (p .gone-after)
 
-  -- where there are budgets they leave some of the job
+  -- the budgets are within what there is to spare
   budgets-spare : n * spell .after .budget .ticks ≤ p .spare
   budgets-spare = go n (p .further .fits)
     where

@@ -29,6 +29,7 @@ use Rattle.books.proofs.travel.Stands.{stands-start, start-waits-none}
 use Rattle.books.proofs.tree.Keys.{key-passed-over, Keyed}
 use Rattle.books.proofs.tree.Winners.{Tree, treeOf, rootOf, Enough, winners-same}
 
+-- All that is kept, not behind the horizon, and the winner tree holds the servers' keys.
 pub record Travels (r : Run) (h : Here) (b : Book) : Type 0 where
   pub kept : Kept r h b
   pub horizon : h .t ≤ r .work .horizon .tick
