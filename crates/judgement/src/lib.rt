@@ -104,7 +104,7 @@ fn is_size_out_of_range(h: Header) -> bool
     sizes::MOST_ARRIVALS < h.arrivals.count
 }
 
-// The test for 3. Offsets and lengths are added in 64 bits, which hold the sums of what passes 2.
+// The test for 3.
 fn is_layout_broken(h: Header, bytes: usize) -> bool
     ensures { λ r. ⌜ r ≡ layoutBroken h bytes ⌝ }
 {
