@@ -1,9 +1,13 @@
 -- Laws of the list of a function's values.
-use Prim.Native.Nat.{ℕ, zero, suc, _<_, zero-le, suc-le-suc}
+use Prim.Native.Nat.{ℕ, zero, suc, _≤_, _<_, zero-le, suc-le-suc}
+use borrow.Author.Tests.{lt-ltb, le-ltb}
+use lib.Dec.{ltb}
 use lib.ListN.{length, getD, replicate, set}
+use mathlib.Core.Bool.{cond}
 use mathlib.Core.List.{List, [], _∷_}
 use mathlib.Core.Logic.{_≢_}
-use mathlib.Core.Path.{_≡_, refl, ap, ap₂}
+use mathlib.Core.Path.{_≡_, refl, sym, _∙_, ap, ap₂}
+use native.Mathlib.Decide.{decLt}
 use native.Mathlib.Nat.{le-of-suc-le-suc, not-suc-le-zero}
 use native.Mathlib.Omega.{arith}
 use Rattle.counting.specs.Places.{places}
@@ -48,3 +52,28 @@ module _ {A : Type 0} where
   unfolding places
   places-getD [] d = refl
   places-getD (a ∷ l) d = ap (_∷_ a) (places-getD l d)
+
+  -- filled from the front: the first k values, and d behind them
+  abbrev pub filled : (ℕ → A) → A → ℕ → ℕ → A
+  filled f d k i = cond (ltb i k) (f i) d
+
+  pub filled-none : (n : ℕ) (f : ℕ → A) (d : A) → replicate n d ≡ places n (filled f d 0)
+  filled-none n f d = places-replicate n d ∙ places-same n (λ i. d) (filled f d 0) (λ i h. rw (le-ltb i 0 zero-le))
+
+  pub filled-more : (n : ℕ) (f : ℕ → A) (d : A) (k : ℕ) → k < n → set (places n (filled f d k)) k (f k) ≡ places n (filled f d (suc k))
+  filled-more n f d k h = rw (sym here) (set-places n (filled f d k) (filled f d (suc k)) k h (λ i q. elsewhere i q (decLt i k)))
+    where
+      here : filled f d (suc k) k ≡ f k
+      here = rw (lt-ltb k (suc k) (omega arith))
+
+      elsewhere : (i : ℕ) → i ≢ k → Dec (i < k) → filled f d k i ≡ filled f d (suc k) i
+      elsewhere i q (yes b) = rw (lt-ltb i k b, lt-ltb i (suc k) (omega arith))
+      elsewhere i q (no b) = rw (le-ltb i k (omega arith), le-ltb i (suc k) (omega arith))
+
+  -- with d behind the first k this is all
+  pub filled-whole : (n : ℕ) (f : ℕ → A) (d : A) (k : ℕ) → ((i : ℕ) → i < n → k ≤ i → f i ≡ d) → places n (filled f d k) ≡ places n f
+  filled-whole n f d k behind = places-same n (filled f d k) f (λ i h. go i h (decLt i k))
+    where
+      go : (i : ℕ) → i < n → Dec (i < k) → filled f d k i ≡ f i
+      go i h (yes b) = rw (lt-ltb i k b)
+      go i h (no b) = rw (le-ltb i k (omega arith)) (sym (behind i h (omega arith)))

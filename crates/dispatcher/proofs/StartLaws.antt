@@ -1,9 +1,8 @@
 -- A dispatcher at its start is made server by server, and is within the ranges of the moves.
-use Prim.Native.Nat.{ℕ, suc, _≤_, _<_, zero-le}
+use Prim.Native.Nat.{ℕ, suc, _≤_, _<_}
 use borrow.Author.Tests.{lt-ltb, le-ltb}
 use lib.ListN.{getD, replicate, set, List·getD-eq-default}
-use mathlib.Core.Logic.{_≢_}
-use mathlib.Core.Path.{_≡_, sym, _∙_}
+use mathlib.Core.Path.{_≡_, _∙_}
 use native.Mathlib.Decide.{decLt}
 use native.Mathlib.Nat.{le-trans}
 use native.Mathlib.Omega.{arith}
@@ -13,7 +12,7 @@ use Rattle.booking.specs.Admission.{Table}
 use Rattle.booking.specs.declared.Booking.{Booking}
 use Rattle.clock.specs.Clock.{moment}
 use Rattle.clock.specs.declared.Length.{Length}
-use Rattle.counting.proofs.PlacesLaws.{length-places, getD-places, places-same, places-replicate, set-places}
+use Rattle.counting.proofs.PlacesLaws.{length-places, getD-places, filled-none, filled-more}
 use Rattle.counting.specs.Places.{places}
 use Rattle.server.proofs.RangeLaws.{fresh-ranged}
 use Rattle.server.specs.Ranges.{Ranged}
@@ -29,21 +28,11 @@ module _ (booking : ℕ → Booking) where
   firstOf k = record { count = k; booking = booking }
 
   pub start-none : replicate mostServers vacant ≡ places mostServers (startAt (firstOf 0))
-  start-none =
-      places-replicate mostServers vacant ∙ places-same mostServers (λ i. vacant) (startAt (firstOf 0)) (λ i h. rw (le-ltb i 0 zero-le))
+  start-none = filled-none mostServers (λ i. fresh (booking i)) vacant
 
   pub start-more : (k : ℕ) → k < mostServers
       → set (places mostServers (startAt (firstOf k))) k (fresh (booking k)) ≡ places mostServers (startAt (firstOf (suc k)))
-  start-more k h =
-      rw (sym here)
-      (set-places mostServers (startAt (firstOf k)) (startAt (firstOf (suc k))) k h (λ i q. elsewhere i q (decLt i k)))
-    where
-      here : startAt (firstOf (suc k)) k ≡ fresh (booking k)
-      here = rw (lt-ltb k (suc k) (omega arith))
-
-      elsewhere : (i : ℕ) → i ≢ k → Dec (i < k) → startAt (firstOf k) i ≡ startAt (firstOf (suc k)) i
-      elsewhere i q (yes b) = rw (lt-ltb i k b, lt-ltb i (suc k) (omega arith))
-      elsewhere i q (no b) = rw (le-ltb i k (omega arith), le-ltb i (suc k) (omega arith))
+  start-more = filled-more mostServers (λ i. fresh (booking i)) vacant
 
 -- each place of it, and each of its servers, which is fresh
 start-at : (t : Table) (k : ℕ) → k < mostServers → getD (places mostServers (startAt t)) k vacant ≡ startAt t k
