@@ -1,34 +1,43 @@
 -- Admission case by case, and what it gives of an admitted table.
-use Prim.Native.Nat.{ℕ, _*_, _/_, _≤_, _<_}
-use borrow.Author.Tests.{ltb-false, lt-ltb, le-ltb}
+use Prim.Native.Nat.{ℕ, _+_, _*_, _/_, _≤_, _<_}
+use borrow.Author.Tests.{ltb-false}
 use lib.Dec.{ltb}
-use mathlib.Core.Bool.{true, false, cond, true≢false}
-use mathlib.Core.Path.{_≡_, sym, _∙_, ap}
-use native.Mathlib.Nat.{le-refl, le-trans, le-of-mul-le-mul-right, mul-le-mul-right}
+use mathlib.Core.Bool.{true, false, cond}
+use mathlib.Core.Path.{_≡_, sym, _∙_, ap, ap₂, subst}
+use native.Mathlib.Nat.{le-trans, le-of-mul-le-mul-right, mul-le-mul-right, not-suc-le-zero}
+use native.Mathlib.Numerals.{add-one}
 use native.Mathlib.Omega.{arith}
 use Rattle.clock.specs.declared.Length.{Length}
-use Rattle.counting.proofs.FirstLaws.{first-is, first-none, first-before}
-use Rattle.counting.proofs.SumLaws.{sum-mono, sum-times}
+use Rattle.counting.proofs.BelowLaws.{below-suc}
+use Rattle.counting.proofs.FirstLaws.{first-is, first-none, first-before, first-same}
+use Rattle.counting.proofs.SumLaws.{sum-mono, sum-same, sum-times}
 use Rattle.counting.specs.Sum.{sum}
 use Rattle.refusal.proofs.AcceptedLaws.{accepted-test}
 use Rattle.refusal.specs.Refusals.{refused, accepted}
 use Rattle.booking.specs.Admission.{Table, firstFaulty, shares, admission}
+use Rattle.booking.specs.declared.Booking.{Booking}
 use Rattle.booking.specs.Share.{faultyBooking, share}
-use Rattle.booking.proofs.ShareLaws.{Sound, sound, sound-unfaulty}
+use Rattle.booking.proofs.ShareLaws.{Sound, sound}
 
 module _ (H : Length) (t : Table) where
   -- none of the first k servers is faulty
   abbrev pub NoneFaulty : ℕ → Type 0
   NoneFaulty k = (j : ℕ) → j < k → faultyBooking H (t .booking j) ≡ false
 
-  -- 4 at the first that is faulty
-  pub faulty-refused : {k : ℕ} → NoneFaulty k → k < t .count → faultyBooking H (t .booking k) ≡ true → admission H t ≡ refused 4 k
-  faulty-refused {k} none h f = rw (first-is (t .count) (λ j. faultyBooking H (t .booking j)) k h f none, lt-ltb _ _ h)
+  pub none-yet : NoneFaulty 0
+  none-yet j b = absurd (not-suc-le-zero b)
 
-  -- where none is, 5 or admission
-  pub none-judged : NoneFaulty (t .count) → admission H t ≡ cond (ltb (H .ticks) (shares H t)) (refused 5 0) accepted
-  none-judged none =
-      rw (first-none (t .count) (λ j. faultyBooking H (t .booking j)) none, le-ltb _ _ (le-refl (t .count)))
+  pub none-more : {k : ℕ} → NoneFaulty k → faultyBooking H (t .booking k) ≡ false → NoneFaulty (k + 1)
+  none-more {k} none f = rw add-one (below-suc (λ (j : ℕ). faultyBooking H (t .booking j) ≡ false) k none f)
+
+  pub first-found : {k : ℕ} → NoneFaulty k → k < t .count → faultyBooking H (t .booking k) ≡ true → firstFaulty H t ≡ k
+  first-found {k} none h f = first-is (t .count) (λ j. faultyBooking H (t .booking j)) k h f none
+
+  pub none-found : {k : ℕ} → NoneFaulty k → k ≡ t .count → firstFaulty H t ≡ k
+  none-found {k} none e = first-none (t .count) (λ j. faultyBooking H (t .booking j)) (subst NoneFaulty e none) ∙ sym e
+
+  pub none-faulty : t .count ≤ firstFaulty H t → NoneFaulty (t .count)
+  none-faulty e k h = first-before (t .count) (λ j. faultyBooking H (t .booking j)) k (le-trans h e)
 
   -- what admission gives
   pub record Admitted : Type 0 where
@@ -41,14 +50,9 @@ module _ (H : Length) (t : Table) where
       let five = accepted-test 5 0 _ accepted (four .1) in
       record {
         sound = λ k h.
-            sound H (t .booking k)
-            (first-before (t .count) (λ j. faultyBooking H (t .booking j)) k (le-trans h (ltb-false _ _ (four .0))));
+            sound H (t .booking k) (none-faulty (ltb-false _ _ (four .0)) k h);
         within = ltb-false _ _ (five .0);
       }
-
-  -- no server of an admitted table is faulty
-  pub admitted-none : Admitted → {k : ℕ} → k < t .count → faultyBooking H (t .booking k) ≡ true → ⊥
-  admitted-none ok {k} h f = true≢false (sym f ∙ sound-unfaulty H (t .booking k) (ok .sound k h))
 
 -- each share is its part of the frame: of a length M that the period divides, as many times as `times` says, it is Q × times
 part-exact : (H : Length) (t : Table) (M : ℕ) (times : ℕ → ℕ) → Admitted H t → (k : ℕ) → k < t .count
@@ -79,3 +83,15 @@ at-most-one H t some e M times divides =
       mul-le-mul-right M (ok .within),
     ))
     some
+
+-- Admission looks at no booking but the table's own.
+module _ (H : Length) (n : ℕ) {b b′ : ℕ → Booking} (same : (k : ℕ) → k < n → b k ≡ b′ k) where
+  pub firstFaulty-same : firstFaulty H (record { count = n; booking = b }) ≡ firstFaulty H (record { count = n; booking = b′ })
+  firstFaulty-same = first-same n (λ k. faultyBooking H (b k)) (λ k. faultyBooking H (b′ k)) (λ k l. ap (faultyBooking H) (same k l))
+
+  pub shares-same : shares H (record { count = n; booking = b }) ≡ shares H (record { count = n; booking = b′ })
+  shares-same = sum-same n (λ k. share H (b k) .ticks) (λ k. share H (b′ k) .ticks) (λ k l. ap (λ (x : Booking). share H x .ticks) (same k l))
+
+  pub admission-same : admission H (record { count = n; booking = b }) ≡ admission H (record { count = n; booking = b′ })
+  admission-same =
+      ap₂ (λ (f s : ℕ). cond (ltb f n) (refused 4 f) (cond (ltb (H .ticks) s) (refused 5 0) accepted)) firstFaulty-same shares-same

@@ -2,14 +2,14 @@
 use Prim.Native.Nat.{ℕ, zero, suc, _*_, _/_, _%_, _≤_}
 use borrow.Author.Tests.{eqb-true, eqb-false, eq-eqb, ne-eqb, le-ltb, ltb-false, not-false}
 use lib.Dec.{eqb}
-use mathlib.Core.Bool.{Bool, true, false}
-use mathlib.Core.Path.{_≡_, refl, ap}
+use mathlib.Core.Bool.{false}
+use mathlib.Core.Path.{_≡_, ap}
 use native.Mathlib.Nat.{mul-le-mul-right, mul-div-le, pos-of-ne-zero, div-add-mod}
 use native.Mathlib.Omega.{arith}
 use Rattle.clock.specs.declared.Length.{Length}
 use Rattle.counting.proofs.TestLaws.{none-of-four}
 use Rattle.booking.specs.declared.Booking.{Booking}
-use Rattle.booking.specs.Share.{faultyBooking, share, shareOf}
+use Rattle.booking.specs.Share.{faultyBooking, share}
 
 -- what a booking without a fault has
 pub record Sound (H : Length) (b : Booking) : Type 0 where
@@ -58,14 +58,3 @@ period-le-frame H b s h = go (H .ticks / b .period .ticks) (s .divides)
     go : (times : ℕ) → b .period .ticks * times ≡ H .ticks → b .period .ticks ≤ H .ticks
     go zero e = let no : ⊥ = omega arith in absurd no
     go (suc times) e = omega arith
-
--- what the answer tells
-pub shareOf-faulty : (H : Length) (b : Booking) → shareOf H b .faulty ≡ faultyBooking H b
-shareOf-faulty H b = go (faultyBooking H b) refl
-  where
-    go : (f : Bool) → faultyBooking H b ≡ f → shareOf H b .faulty ≡ faultyBooking H b
-    go true f = rw f
-    go false f = rw f
-
-pub shareOf-share : (H : Length) (b : Booking) → faultyBooking H b ≡ false → shareOf H b .share ≡ share H b
-shareOf-share H b f = rw f

@@ -1,77 +1,137 @@
--- How a sheet stands after the first k bookings of a table, and that one with the whole table on it says what admission says.
-use Prim.Native.Nat.{ℕ, suc, _+_, _≤_, _<_, min}
+-- How the shares are taken off what is left line by line, what the foot of a sheet says, and that the sheet of a table stands for the table.
+use Prim.Native.Nat.{ℕ, suc, _+_, _-_, _≤_, _<_}
 use borrow.Author.Tests.{lt-ltb, le-ltb}
 use lib.Dec.{ltb}
-use mathlib.Core.Bool.{Bool, true, false}
-use mathlib.Core.Path.{_≡_, refl, sym, _∙_, ap, subst, subst⁻¹}
-use native.Mathlib.Decide.{decLt}
-use native.Mathlib.Nat.{le-antisymm, not-suc-le-zero}
+use mathlib.Core.Bool.{Bool, true, false, cond, true≢false}
+use mathlib.Core.Path.{_≡_, refl, sym, _∙_, ap, ap₂, subst}
+use native.Mathlib.Nat.{le-refl}
 use native.Mathlib.Numerals.{add-one}
 use native.Mathlib.Omega.{arith}
-use Rattle.clock.specs.Clock.{lastTick, ticks}
+use Rattle.clock.specs.Clock.{ticks}
 use Rattle.clock.specs.declared.Length.{Length}
-use Rattle.counting.proofs.BelowLaws.{below-suc}
+use Rattle.counting.proofs.FirstLaws.{first-none}
+use Rattle.counting.proofs.PlacesLaws.{getD-places}
+use Rattle.counting.proofs.SumLaws.{sum-first}
 use Rattle.counting.specs.Sum.{sum}
-use Rattle.booking.specs.Admission.{Table, shares, admission}
+use Rattle.refusal.specs.Refusals.{Said, refused, accepted}
+use Rattle.sizes.specs.Sizes.{mostServers}
+use Rattle.booking.specs.Admission.{Table, admission, firstFaulty, shares}
 use Rattle.booking.specs.declared.Booking.{Booking}
+use Rattle.booking.specs.declared.Foot.{Foot}
+use Rattle.booking.specs.declared.Foot.the-variants.{Faulty, Over, Left}
 use Rattle.booking.specs.declared.Sheet.{Sheet}
-use Rattle.booking.specs.Share.{faultyBooking, share, shareOf}
-use Rattle.booking.specs.Sheet.{onSheet, entered, sheetSays}
-use Rattle.booking.proofs.AdmissionLaws.{NoneFaulty, Admitted, admitted-none, faulty-refused, none-judged}
-use Rattle.booking.proofs.ShareLaws.{shareOf-faulty, shareOf-share}
+use Rattle.booking.specs.Share.{booked, faultyBooking, share}
+use Rattle.booking.specs.Sheet.{footOf, sheetOf, tableOn}
+use Rattle.booking.proofs.AdmissionLaws.{Admitted, admission-same, firstFaulty-same, shares-same}
+use Rattle.booking.proofs.ShareLaws.{sound-unfaulty}
 
 module _ (H : Length) (t : Table) where
-  -- the shares of the first k bookings
-  abbrev sharesTo : ℕ → ℕ
-  sharesTo k = sum k (λ j. share H (t .booking j) .ticks)
+  -- so much of the frame is left behind line k: with the shares above it, it is the frame
+  abbrev pub LeftBehind : ℕ → ℕ → Type 0
+  LeftBehind k left = left + sum k (λ j. share H (t .booking j) .ticks) ≡ H .ticks
 
-  -- none of the first k is faulty, and their shares are on the sheet; or the first faulty one was entered last
-  pub data Standing (k : ℕ) (s : Sheet) : Type 0 where
-    clean : NoneFaulty H t k → s .frame ≡ H → s .sum .ticks ≡ min (sharesTo k) lastTick → s .faulty ≡ false → Standing k s
-    closed : s .last < k → NoneFaulty H t (s .last) → faultyBooking H (t .booking (s .last)) ≡ true → s .faulty ≡ true → Standing k s
-
-  pub standing-none : {s : Sheet} → s ≡ record { frame = H; sum = ticks 0; last = 0; faulty = false } → Standing 0 s
+  -- "they start from the frame"
+  pub left-first : LeftBehind 0 (H .ticks)
   unfolding sum
-  standing-none e = subst⁻¹ (Standing 0) e (clean (λ j b. absurd (not-suc-le-zero b)) refl (omega arith) refl)
+  left-first = omega arith
 
-  -- one booking more
-  standing-more : (k : ℕ) (s : Sheet) → Standing k s → Standing (suc k) (entered s k (t .booking k))
+  -- the share of the booking that was read at line k
+  share-read : {k : ℕ} {b : Booking} {r : Length} → b ≡ t .booking k → r ≡ share H b → r .ticks ≡ share H (t .booking k) .ticks
+  share-read read e = ap (λ (l : Length). l .ticks) (e ∙ ap (share H) read)
+
+  -- "and take each share off what is left"
+  pub left-next : {k left : ℕ} {b : Booking} {r : Length} → b ≡ t .booking k → r ≡ share H b → r .ticks ≤ left → LeftBehind k left
+      → LeftBehind (k + 1) (left - r .ticks)
   unfolding sum
-  standing-more k s (clean none frame-is sum-is going) =
-      rw going
-      (subst⁻¹ (λ (frame : Length). Standing (suc k) (onSheet s k (shareOf frame (t .booking k)))) frame-is
-      (go (faultyBooking H (t .booking k)) refl))
-    where
-      go : (f : Bool) → faultyBooking H (t .booking k) ≡ f → Standing (suc k) (onSheet s k (shareOf H (t .booking k)))
-      go true f = closed (omega arith) none f (shareOf-faulty H (t .booking k) ∙ f)
-      go false f =
-          clean (below-suc (λ (j : ℕ). faultyBooking H (t .booking j) ≡ false) k none f) frame-is
-          (omega (arith, sum-is, ap (λ (l : Length). l .ticks) (shareOf-share H (t .booking k) f)))
-          (shareOf-faulty H (t .booking k) ∙ f)
-  standing-more k s (closed before none f stopped) = rw stopped (closed (omega arith) none f refl)
+  left-next {k} {left} {b} {r} read e enough is = rw add-one (omega (arith, is, enough, share-read {k = k} read e))
 
-  pub standing-entered : {k : ℕ} {b : Booking} {s r : Sheet} → Standing k s → b ≡ t .booking k → r ≡ entered s k b → Standing (k + 1) r
-  standing-entered {k} {b} {s} {r} stands read e =
-      rw add-one (subst⁻¹ (Standing (suc k)) (e ∙ ap (entered s k) read) (standing-more k s stands))
+  -- "no number in it is ever above H"; that a share is not, is `share-le-frame` of ShareLaws
+  pub left-within : (k left : ℕ) → LeftBehind k left → left ≤ H .ticks
+  left-within k left is = omega (arith, is)
 
-  -- with all on it, it says what admission says; no frame of the rules is the last number of 64 bits
-  pub sheet-admits : {k : ℕ} {s : Sheet} → k ≤ t .count → t .count ≤ k → H .ticks < lastTick → Standing k s → sheetSays s ≡ admission H t
-  sheet-admits {k} {s} from to small stands = go s (subst (λ (n : ℕ). Standing n s) (le-antisymm from to) stands)
-    where
-      go : (s : Sheet) → Standing (t .count) s → sheetSays s ≡ admission H t
-      go s (closed before none f stopped) = rw stopped (sym (faulty-refused H t none before f))
-      go s (clean none frame-is sum-is going) = rw (going, frame-is, sum-is) (rw (same (decLt (H .ticks) (sharesTo (t .count)))) (sym (none-judged H t none)))
-        where
-          same : Dec (H .ticks < sharesTo (t .count)) → ltb (H .ticks) (min (sharesTo (t .count)) lastTick) ≡ ltb (H .ticks) (shares H t)
-          same (yes more) = lt-ltb (H .ticks) (min (sharesTo (t .count)) lastTick) (omega arith) ∙ sym (lt-ltb _ _ more)
-          same (no less) =
-              le-ltb (H .ticks) (min (sharesTo (t .count)) lastTick) (omega arith) ∙ sym (le-ltb (H .ticks) (sharesTo (t .count)) (omega arith))
+  pub foot-faulty : {k : ℕ} → k ≡ firstFaulty H t → k < t .count → footOf H t ≡ Faulty k
+  foot-faulty {k} e h = rw (sym e, lt-ltb k (t .count) h)
 
-  -- of an admitted table the sum is that of its shares
-  pub sheet-shares : {k : ℕ} {s : Sheet} → k ≤ t .count → t .count ≤ k → H .ticks < lastTick → Admitted H t → Standing k s
-      → s .sum .ticks ≡ shares H t
-  sheet-shares {k} {s} from to small ok stands = go s (subst (λ (n : ℕ). Standing n s) (le-antisymm from to) stands)
-    where
-      go : (s : Sheet) → Standing (t .count) s → s .sum .ticks ≡ shares H t
-      go s (clean none frame-is sum-is going) = omega (arith, sum-is, ok .within)
-      go s (closed before none f stopped) = absurd (admitted-none H t ok before f)
+  -- the foot where no booking is faulty
+  module _ (none : t .count ≤ firstFaulty H t) where
+    foot-unfaulty : footOf H t ≡ cond (ltb (H .ticks) (shares H t)) Over (Left (ticks (H .ticks - shares H t)))
+    foot-unfaulty = rw (le-ltb (firstFaulty H t) (t .count) none)
+
+    -- a share that is more than what is left
+    pub left-over : {k left : ℕ} {b : Booking} {r : Length} → k < t .count → b ≡ t .booking k → r ≡ share H b → left < r .ticks
+        → LeftBehind k left
+        → footOf H t ≡ Over
+    unfolding sum
+    left-over {k} {left} {b} {r} below read e less is =
+        let first = sum-first (t .count) (suc k) (λ j. share H (t .booking j) .ticks) below in
+        rw (foot-unfaulty, lt-ltb (H .ticks) (shares H t) (omega (arith, is, less, share-read {k = k} read e, first)))
+
+    -- all of them taken off
+    pub left-last : {k left : ℕ} → k ≡ t .count → LeftBehind k left → footOf H t ≡ Left (ticks left)
+    left-last {k} {left} e is =
+        let whole : LeftBehind (t .count) left = subst (λ (n : ℕ). LeftBehind n left) e is in
+        rw (foot-unfaulty, le-ltb (H .ticks) (shares H t) (omega (arith, whole))) (ap (λ (n : ℕ). Left (ticks n)) (omega (arith, whole)))
+
+-- what each case of a foot says of its table
+abbrev pub footSays : Foot → Said (Unit {0})
+footSays (Faulty first) = refused 4 first
+footSays Over = refused 5 0
+footSays (Left left) = accepted
+
+foot-admits : (H : Length) (t : Table) → footSays (footOf H t) ≡ admission H t
+foot-admits H t = go (ltb (firstFaulty H t) (t .count)) (ltb (H .ticks) (shares H t))
+  where
+    go : (four five : Bool)
+        → footSays (cond four (Faulty (firstFaulty H t)) (cond five Over (Left (ticks (H .ticks - shares H t)))))
+        ≡ cond four (refused 4 (firstFaulty H t)) (cond five (refused 5 0) accepted)
+    go true five = refl
+    go false true = refl
+    go false false = refl
+
+pub foot-told : (s : Sheet) {f g : Foot} → f ≡ footOf (s .frame) (tableOn s) → f ≡ g → footSays g ≡ admission (s .frame) (tableOn s)
+foot-told s found told = sym (ap footSays told) ∙ ap footSays found ∙ foot-admits (s .frame) (tableOn s)
+
+-- The sheet of a table stands for it: there is room for all that a table may have.
+module _ (H : Length) (t : Table) (room : t .count ≤ mostServers) {s : Sheet} (read : s ≡ sheetOf H t) where
+  same-line : (k : ℕ) → k < t .count → tableOn (sheetOf H t) .booking k ≡ t .booking k
+  same-line k below = getD-places mostServers (t .booking) k (booked 0 0) (omega (arith, below, room))
+
+  pub sheet-admission : admission (s .frame) (tableOn s) ≡ admission H t
+  sheet-admission = ap (λ (x : Sheet). admission (x .frame) (tableOn x)) read ∙ admission-same H (t .count) same-line
+
+  pub sheet-foot : footOf (s .frame) (tableOn s) ≡ footOf H t
+  sheet-foot =
+      ap (λ (x : Sheet). footOf (x .frame) (tableOn x)) read
+      ∙ ap₂ (λ (f u : ℕ). cond (ltb f (t .count)) (Faulty f) (cond (ltb (H .ticks) u) Over (Left (ticks (H .ticks - u)))))
+      (firstFaulty-same H (t .count) same-line)
+      (shares-same H (t .count) same-line)
+
+-- what the shares of an admitted table do not take is left
+pub admitted-foot : (H : Length) (t : Table) → Admitted H t → footOf H t ≡ Left (ticks (H .ticks - shares H t))
+admitted-foot H t ok =
+    rw (
+      first-none (t .count) (λ j. faultyBooking H (t .booking j)) (λ j b. sound-unfaulty H (t .booking j) (ok .sound j b)),
+      le-ltb (t .count) (t .count) (le-refl (t .count)),
+      le-ltb (H .ticks) (shares H t) (ok .within),
+    )
+
+-- A foot says one thing.
+abbrev leftAt : Foot → Length
+leftAt (Faulty first) = ticks 0
+leftAt Over = ticks 0
+leftAt (Left left) = left
+
+abbrev isLeft : Foot → Bool
+isLeft (Faulty first) = false
+isLeft Over = false
+isLeft (Left left) = true
+
+module _ {f : Foot} {left : Length} (is : f ≡ Left left) where
+  pub left-told : {other : Length} → f ≡ Left other → other ≡ left
+  left-told e = sym (ap leftAt e) ∙ ap leftAt is
+
+  pub left-not-over : f ≡ Over → ⊥
+  left-not-over e = true≢false (sym (ap isLeft is) ∙ ap isLeft e)
+
+  pub left-not-faulty : {first : ℕ} → f ≡ Faulty first → ⊥
+  left-not-faulty e = true≢false (sym (ap isLeft is) ∙ ap isLeft e)

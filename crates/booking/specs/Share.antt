@@ -1,11 +1,10 @@
 -- A booking's faults and its share (document 01, refusal 4 and "The share of a server").
 use Prim.Native.Nat.{ℕ, _*_, _/_, _%_}
 use lib.Dec.{eqb, ltb}
-use mathlib.Core.Bool.{Bool, true, false, cond, not, _||_}
+use mathlib.Core.Bool.{Bool, not, _||_}
 use Rattle.clock.specs.Clock.{ticks}
 use Rattle.clock.specs.declared.Length.{Length}
 use Rattle.booking.specs.declared.Booking.{Booking}
-use Rattle.booking.specs.declared.Share.{Share}
 
 -- the booking of Q in every T
 abbrev pub booked : ℕ → ℕ → Booking
@@ -20,8 +19,3 @@ faultyBooking H b =
 -- "The share of a server is Q times (H divided by T)."
 abbrev pub share : Length → Booking → Length
 share H b = ticks (b .budget .ticks * (H .ticks / b .period .ticks))
-
--- whether a booking is faulty, and its share where it is not
-abbrev pub shareOf : Length → Booking → Share
-shareOf H b =
-    cond (faultyBooking H b) (record { faulty = true; share = ticks 0 }) (record { faulty = false; share = share H b })

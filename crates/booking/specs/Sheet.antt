@@ -1,23 +1,29 @@
--- The booking sheet: how admission is told from bookings that come one after the other. A sheet with the whole table on it says what
--- `admission` says (`sheet-admits` of SheetLaws).
-use Prim.Native.Nat.{ℕ, _+_, min}
+-- The booking sheet of a table, and what stands at its foot: "they start from the frame and take each share off what is left" (document 02,
+-- W-205).
+use Prim.Native.Nat.{_-_}
 use lib.Dec.{ltb}
+use lib.ListN.{getD}
 use mathlib.Core.Bool.{cond}
-use Rattle.clock.specs.Clock.{lastTick, ticks}
-use Rattle.refusal.specs.Refusals.{Said, refused, accepted}
-use Rattle.booking.specs.declared.Booking.{Booking}
-use Rattle.booking.specs.declared.Share.{Share}
+use Rattle.clock.specs.Clock.{ticks}
+use Rattle.clock.specs.declared.Length.{Length}
+use Rattle.counting.specs.Places.{places}
+use Rattle.sizes.specs.Sizes.{mostServers}
+use Rattle.booking.specs.Admission.{Table, firstFaulty, shares}
+use Rattle.booking.specs.declared.Foot.{Foot}
+use Rattle.booking.specs.declared.Foot.the-variants.{Faulty, Over, Left}
 use Rattle.booking.specs.declared.Sheet.{Sheet}
-use Rattle.booking.specs.Share.{shareOf}
+use Rattle.booking.specs.Share.{booked}
 
--- a sheet with what was found of booking k behind the others; 64 bits hold the sum up to the last number
-abbrev pub onSheet : Sheet → ℕ → Share → Sheet
-onSheet s k f = record { frame = s .frame; sum = ticks (min (s .sum .ticks + f .share .ticks) lastTick); last = k; faulty = f .faulty }
+-- the sheet of a frame and a table has the first 64 bookings
+abbrev pub sheetOf : Length → Table → Sheet
+sheetOf H t = record { frame = H; count = t .count; bookings = places mostServers (t .booking) }
 
--- a sheet with booking k entered; behind a faulty one nothing is
-abbrev pub entered : Sheet → ℕ → Booking → Sheet
-entered s k b = cond (s .faulty) s (onSheet s k (shareOf (s .frame) b))
+-- the table that stands on a sheet; behind the last line Q and T are 0
+abbrev pub tableOn : Sheet → Table
+tableOn s = record { count = s .count; booking = λ k. getD (s .bookings) k (booked 0 0) }
 
--- 4 at the faulty one, then 5 where the sum is more than the frame
-abbrev pub sheetSays : Sheet → Said (Unit {0})
-sheetSays s = cond (s .faulty) (refused 4 (s .last)) (cond (ltb (s .frame .ticks) (s .sum .ticks)) (refused 5 0) accepted)
+-- the first faulty booking, or that the shares are more than the frame, or what is left of it once they are taken off
+abbrev pub footOf : Length → Table → Foot
+footOf H t =
+    cond (ltb (firstFaulty H t) (t .count)) (Faulty (firstFaulty H t))
+    (cond (ltb (H .ticks) (shares H t)) Over (Left (ticks (H .ticks - shares H t))))

@@ -1,12 +1,14 @@
-// A booking, Q ticks in every T, against the frame: whether it is faulty, and its share where it is not; and the sheet on which the
-// bookings of a table are entered, to be admitted.
-ghost use Prim.Native.Nat.{_+_, min};
+// A booking, Q ticks in every T, against the frame: whether it is faulty, and its share where it is not; and the booking sheet of a table,
+// by which it is admitted.
+ghost use Prim.Native.Nat.{_≤_};
+ghost use lib.ListN.{getD};
 ghost use mathlib.Core.Bool.{false};
 ghost use mathlib.Core.Path.{_≡_};
-ghost use Rattle.clock.specs.Clock.{lastTick, ticks};
+ghost use Rattle.clock.specs.Clock.{ticks};
 ghost use Rattle.refusal.specs.Refusals.{onPaper};
-ghost use Rattle.booking.specs.Share.{booked, faultyBooking, shareOf};
-ghost use Rattle.booking.specs.Sheet.{entered, sheetSays};
+ghost use Rattle.booking.specs.Admission.{admission, firstFaulty};
+ghost use Rattle.booking.specs.Share.{booked, faultyBooking, share};
+ghost use Rattle.booking.specs.Sheet.{footOf, tableOn};
 use clock::Length;
 use refusal::Refusal;
 use refusal::Verdict;
@@ -18,41 +20,109 @@ pub struct Booking {
     pub period: Length,
 }
 
-pub struct Share {
-    pub faulty: bool,
-    // Of a faulty booking 0.
-    pub share: Length,
-}
-
-// The booking sheet of a frame: a table's bookings are entered one after the other.
+// A booking sheet: the frame, and the bookings of a table one below the other.
 pub struct Sheet {
     // H
     pub frame: Length,
-    // The shares that were entered, up to what 64 bits hold.
-    pub sum: Length,
-    // The number of the booking that was entered last.
-    pub last: usize,
-    // Whether that one is faulty: then nothing more is entered.
-    pub faulty: bool,
+    // How many bookings are on it.
+    pub count: usize,
+    pub bookings: [Booking; sizes::MOST_SERVERS],
 }
 
-// The booking's share of the frame. A booking without a fault has Q at most T, so its share is at most H, and nothing here can
-// overflow.
-pub fn share_of(frame: Length, b: Booking) -> Share
-    ensures { λ r. ⌜ r ≡ shareOf frame b ⌝ }
+// What stands at the foot of a sheet.
+pub enum Foot {
+    // The first booking that is faulty.
+    Faulty(usize),
+    // A share is more than what is left for it.
+    Over,
+    // What is left of the frame.
+    Left(Length),
+}
+
+// The verdict on the table of a sheet: 4 at the first faulty server, then 5.
+pub fn admit(sheet: Sheet) -> Verdict
+    ensures { λ r. ⌜ onPaper r ≡ admission (sheet .frame) (tableOn sheet) ⌝ }
 {
-    let h = frame.ticks;
-    let q = b.budget.ticks;
-    let t = b.period.ticks;
-    if is_faulty(h, q, t) {
-        return Share {
-            faulty: true,
-            share: Length { ticks: 0 },
-        };
+    let foot = foot_of(sheet);
+    match foot {
+        Foot::Faulty(first) => Verdict::Refused(Refusal::FaultyServer(first)),
+        Foot::Over => Verdict::Refused(Refusal::Shares),
+        Foot::Left(_) => Verdict::Accepted,
     }
-    Share {
-        faulty: false,
-        share: Length { ticks: q * (h / t) },
+}
+
+// The foot of a sheet. All bookings are looked at for a fault before the first share is taken off, so that an overrun hides none.
+pub fn foot_of(sheet: Sheet) -> Foot
+    ensures { λ r. ⌜ r ≡ footOf (sheet .frame) (tableOn sheet) ⌝ }
+{
+    let first = first_faulty(sheet);
+    if first < sheet.count {
+        return Foot::Faulty(first);
+    }
+    take_off(sheet)
+}
+
+// The first booking that is faulty, or the count where none is.
+fn first_faulty(sheet: Sheet) -> usize
+    ensures { λ r. ⌜ r ≡ firstFaulty (sheet .frame) (tableOn sheet) ⌝ }
+{
+    let mut k = 0;
+    while k < sheet.count {
+        let b = booking_on(sheet, k);
+        if is_faulty(sheet.frame.ticks, b.budget.ticks, b.period.ticks) {
+            return k;
+        }
+        k += 1;
+    }
+    sheet.count
+}
+
+// As the clerks do: they start from the frame and take each share off what is left.
+fn take_off(sheet: Sheet) -> Foot
+    requires { ⌜ sheet .count ≤ firstFaulty (sheet .frame) (tableOn sheet) ⌝ }
+    ensures { λ r. ⌜ r ≡ footOf (sheet .frame) (tableOn sheet) ⌝ }
+{
+    let mut left = sheet.frame.ticks;
+    let mut at = 0;
+    while at < sheet.count {
+        let share = share_of(sheet.frame, booking_on(sheet, at));
+        if left < share.ticks {
+            return Foot::Over;
+        }
+        left -= share.ticks;
+        at += 1;
+    }
+    Foot::Left(Length { ticks: left })
+}
+
+// The booking on line k of a sheet.
+fn booking_on(sheet: Sheet, k: usize) -> Booking
+    ensures { λ r. ⌜ r ≡ tableOn sheet .booking k ⌝ }
+{
+    let bookings = sheet.bookings;
+    line(bookings, k)
+}
+
+// Line k; behind the last one both numbers are 0.
+fn line(bookings: [Booking; sizes::MOST_SERVERS], k: usize) -> Booking
+    ensures { λ r. ⌜ r ≡ getD bookings k (booked 0 0) ⌝ }
+{
+    if k < sizes::MOST_SERVERS {
+        return bookings[k];
+    }
+    Booking {
+        budget: Length { ticks: 0 },
+        period: Length { ticks: 0 },
+    }
+}
+
+// The share of a booking that is not faulty. Q is at most T, so it is at most H, and nothing can overflow.
+fn share_of(frame: Length, b: Booking) -> Length
+    requires { ⌜ faultyBooking frame b ≡ false ⌝ }
+    ensures { λ r. ⌜ r ≡ share frame b ⌝ }
+{
+    Length {
+        ticks: b.budget.ticks * (frame.ticks / b.period.ticks),
     }
 }
 
@@ -69,60 +139,4 @@ fn is_faulty(h: u64, q: u64, t: u64) -> bool
         return true;
     }
     t < q
-}
-
-// A sheet with nothing on it.
-pub fn blank_sheet(frame: Length) -> Sheet
-    ensures { λ r. ⌜ r ≡ record { frame = frame; sum = ticks 0; last = 0; faulty = false } ⌝ }
-{
-    Sheet {
-        frame,
-        sum: Length { ticks: 0 },
-        last: 0,
-        faulty: false,
-    }
-}
-
-// The sheet with booking k entered, or as it was behind a faulty one.
-pub fn enter(sheet: Sheet, k: usize, b: Booking) -> Sheet
-    ensures { λ r. ⌜ r ≡ entered sheet k b ⌝ }
-{
-    if sheet.faulty {
-        return sheet;
-    }
-    let frame = sheet.frame;
-    let found = share_of(frame, b);
-    Sheet {
-        frame,
-        sum: together(sheet.sum, found.share),
-        last: k,
-        faulty: found.faulty,
-    }
-}
-
-// Two lengths together, or the longest that 64 bits hold where they are longer. No table of the rules comes near it.
-fn together(a: Length, b: Length) -> Length
-    ensures { λ r. ⌜ r ≡ ticks (min (a .ticks + b .ticks) lastTick) ⌝ }
-{
-    if b.ticks <= clock::LAST_TICK - a.ticks {
-        return Length {
-            ticks: a.ticks + b.ticks,
-        };
-    }
-    Length {
-        ticks: clock::LAST_TICK,
-    }
-}
-
-// What a sheet with a whole table on it says: 4 at the first faulty server, then 5.
-pub fn admit(sheet: Sheet) -> Verdict
-    ensures { λ r. ⌜ onPaper r ≡ sheetSays sheet ⌝ }
-{
-    if sheet.faulty {
-        return Verdict::Refused(Refusal::FaultyServer(sheet.last));
-    }
-    if sheet.frame.ticks < sheet.sum.ticks {
-        return Verdict::Refused(Refusal::Shares);
-    }
-    Verdict::Accepted
 }

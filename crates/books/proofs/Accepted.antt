@@ -41,6 +41,10 @@ judged-accepted file places e =
 
 -- What the header of a file tells of its work, as it was read.
 module _ (file : List ℕ) {h : Header} (read : h ≡ header file) where
+  pub work-read : workUnder h file ≡ work file
+  unfolding work
+  work-read = ap (λ (x : Header). workUnder x file) read
+
   pub arrivals-read : h .arrivals .count ≡ work file .arrivals
   unfolding work
   arrivals-read = ap (λ (x : Header). x .arrivals .count) read

@@ -11,14 +11,12 @@ use native.Mathlib.Decide.{decLt}
 use native.Mathlib.Omega.{arith}
 use Rattle.arrival.specs.Arrival.{faultyArrival}
 use Rattle.arrival.specs.declared.Arrival.{Arrival}
-use Rattle.booking.specs.Admission.{admission, shares}
-use Rattle.booking.specs.Share.{faultyBooking, share}
+use Rattle.booking.proofs.AdmissionLaws.{admission-same}
 use Rattle.booking.specs.declared.Booking.{Booking}
 use Rattle.clock.specs.Clock.{moment, until}
 use Rattle.clock.specs.declared.Length.{Length}
 use Rattle.clock.specs.declared.Moment.{Moment}
 use Rattle.counting.proofs.CountLaws.{count-same}
-use Rattle.counting.proofs.FirstLaws.{first-same}
 use Rattle.counting.proofs.PlacesLaws.{places-same}
 use Rattle.counting.proofs.SumLaws.{sum-same}
 use Rattle.dispatcher.specs.Moves.{arrival, tick}
@@ -49,15 +47,6 @@ module _ (H : Length) (N : Moment) (n m : ℕ) {b b′ : ℕ → Booking} {a a�
   v = record { frame = H; horizon = N; table = record { count = n; booking = b′ }; arrivals = m; arrival = a′ }
 
   -- The judgement.
-  pub shares-same : shares H (w .table) ≡ shares H (v .table)
-  shares-same = sum-same n (λ k. share H (b k) .ticks) (λ k. share H (b′ k) .ticks) (λ k l. ap (λ (x : Booking). share H x .ticks) (same-b k l))
-
-  admission-same : admission H (w .table) ≡ admission H (v .table)
-  admission-same =
-      ap₂ (λ (f s : ℕ). cond (ltb f n) (refused 4 f) (cond (ltb (H .ticks) s) (refused 5 0) accepted))
-      (first-same n (λ k. faultyBooking H (b k)) (λ k. faultyBooking H (b′ k)) (λ k l. ap (faultyBooking H) (same-b k l)))
-      shares-same
-
   arrival-judged-same : (k : ℕ) → k < m → arrivalJudged w k ≡ arrivalJudged v k
   unfolding arrivalJudged
   arrival-judged-same zero l =
@@ -77,7 +66,7 @@ module _ (H : Length) (N : Moment) (n m : ℕ) {b b′ : ℕ → Booking} {a a�
   pub work-judged-same : (places : ℕ) → workJudged w places ≡ workJudged v places
   unfolding workJudged
   work-judged-same places =
-      ap₂ (λ (s r : Said (Unit {0})). andThen s (andThen r (finishesJudged w places))) admission-same (arrivals-judged-same m (omega arith))
+      ap₂ (λ (s r : Said (Unit {0})). andThen s (andThen r (finishesJudged w places))) (admission-same H n same-b) (arrivals-judged-same m (omega arith))
 
   -- The run, moment by moment.
   start-same : atStart H (w .table) ≡ atStart H (v .table)

@@ -9,12 +9,20 @@ use mathlib.Core.Path.{_≡_}
 use Rattle.booking.specs.Admission.{admission}
 use Rattle.counting.proofs.TestLaws.{none-of-three}
 use Rattle.refusal.specs.Refusals.{refused, accepted}
-use Rattle.sizes.specs.Sizes.{clockEnd, headerBytes, mostFrame, arrivalBytes, serverBytes}
+use Rattle.sizes.specs.Sizes.{clockEnd, headerBytes, mostArrivals, mostFrame, mostServers, arrivalBytes, serverBytes}
 use Rattle.workfile.specs.Layout.{header}
 use Rattle.workfile.specs.Work.{Work, workUnder, work}
 use Rattle.workfile.specs.declared.Header.{Header}
 use Rattle.judgement.specs.Judgement.{lengthOutOfRange, sizesOutOfRange, layoutBroken, workJudged, judged}
-use Rattle.judgement.specs.working.Header.{listJudged, Sized}
+use Rattle.judgement.specs.working.Header.{listJudged}
+
+-- what a header has that is not refused by 2
+pub record Sized (h : Header) : Type 0 where
+  pub frame-from : 1 ≤ h .frame .ticks
+  pub frame-to : h .frame .ticks ≤ mostFrame
+  pub horizon : h .horizon .tick ≤ clockEnd
+  pub servers : h .servers .count ≤ mostServers
+  pub arrivals : h .arrivals .count ≤ mostArrivals
 
 pub sized : (h : Header) → sizesOutOfRange h ≡ false → Sized h
 sized h e =

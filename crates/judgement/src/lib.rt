@@ -1,10 +1,9 @@
 // The judgement of a work file by the refusals 1 to 9, in the order of the rules.
 ghost use mathlib.Core.Path.{_≡_};
-ghost use Rattle.booking.specs.Admission.{admission};
 ghost use Rattle.refusal.specs.Refusals.{onPaper};
 ghost use Rattle.workfile.specs.Work.{workUnder};
 ghost use Rattle.judgement.specs.Judgement.{lengthOutOfRange, sizesOutOfRange, layoutBroken, judged};
-ghost use Rattle.judgement.specs.working.Header.{Sized, listJudged};
+ghost use Rattle.judgement.specs.working.Header.{listJudged};
 use refusal::Refusal;
 use refusal::Verdict;
 use workfile::Header;
@@ -24,7 +23,7 @@ pub fn judge(file: &[u8], places: usize) -> Verdict
     if is_layout_broken(h, bytes) {
         return Verdict::Refused(Refusal::Layout);
     }
-    let table = admit(file, h);
+    let table = booking::admit(listing::sheet_of(file, h));
     match table {
         Verdict::Accepted => judge_arrivals(file, h, places),
         Verdict::Refused(_) => table,
@@ -58,21 +57,6 @@ fn judge_arrivals(file: &[u8], h: Header, places: usize) -> Verdict
         return Verdict::Refused(Refusal::FinishList);
     }
     Verdict::Accepted
-}
-
-// 4 at the first faulty server, then 5.
-fn admit(file: &[u8], h: Header) -> Verdict
-    requires { ⌜ Sized h ⌝ }
-    ensures { λ r. ⌜ onPaper r ≡ admission (h .frame) (workUnder h (now (file .entry)) .table) ⌝ }
-{
-    let servers = h.servers.count;
-    let mut sheet = booking::blank_sheet(h.frame);
-    let mut k = 0;
-    while k < servers {
-        sheet = booking::enter(sheet, k, listing::booking_of(file, h, k));
-        k += 1;
-    }
-    booking::admit(sheet)
 }
 
 // The test for 1.

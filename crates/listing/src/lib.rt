@@ -4,10 +4,13 @@ ghost use mathlib.Core.Path.{_≡_};
 ghost use Prim.Native.Nat.{_+_, _*_, _≤_, min};
 ghost use lib.Dec.{ltb};
 ghost use lib.ListN.{length};
+ghost use Rattle.booking.specs.Sheet.{sheetOf};
 ghost use Rattle.sizes.specs.Sizes.{arrivalBytes, serverBytes};
 ghost use Rattle.workfile.specs.Work.{workUnder};
 use arrival::Arrival;
 use booking::Booking;
+use booking::Sheet;
+use clock::Length;
 use workfile::Header;
 
 // The last number of 64 bits.
@@ -22,6 +25,29 @@ pub fn booking_of(file: &[u8], h: Header, k: usize) -> Booking
         h.servers.offset,
         bytes_of(file, sizes::SERVER_BYTES, k),
     )
+}
+
+// The booking sheet of the table: its first 64 bookings.
+pub fn sheet_of(file: &[u8], h: Header) -> Sheet
+    ensures { λ r. ⌜ r ≡ sheetOf (h .frame) (workUnder h (now (file .entry)) .table) ⌝ }
+{
+    let blank = Booking {
+        budget: Length { ticks: 0 },
+        period: Length { ticks: 0 },
+    };
+    let frame = h.frame;
+    let count = h.servers.count;
+    let mut bookings = [blank; sizes::MOST_SERVERS];
+    let mut k = 0;
+    while k < sizes::MOST_SERVERS {
+        bookings[k] = booking_of(file, h, k);
+        k += 1;
+    }
+    Sheet {
+        frame,
+        count,
+        bookings,
+    }
 }
 
 // Arrival k, likewise.

@@ -1,13 +1,16 @@
 // Opening a live table: a lent list of Q, T pairs and the frame H become a dispatcher, or are refused by number and place.
+ghost use mathlib.Core.Bool.{false};
 ghost use mathlib.Core.Path.{_≡_};
 ghost use Prim.Native.Nat.{_+_, _*_, _/_, _≤_, _<_};
 ghost use lib.ListN.{length};
+ghost use Rattle.booking.specs.Sheet.{sheetOf};
 ghost use Rattle.dispatcher.specs.Start.{atStart};
 ghost use Rattle.dispatcher.specs.Within.{Within};
 ghost use Rattle.refusal.specs.Refusals.{onPaper};
 ghost use Rattle.sizes.specs.Sizes.{mostServers};
 ghost use Rattle.opening.specs.Opening.{listed, outOfRange, tableJudged, opening, openingSays, noServers};
 use booking::Booking;
+use booking::Sheet;
 use clock::Length;
 use clock::Moment;
 use dispatcher::Dispatcher;
@@ -39,14 +42,7 @@ fn judge(table: &[u64], frame: Length) -> Verdict
     if is_out_of_range(table.len(), frame) {
         return Verdict::Refused(Refusal::Sizes);
     }
-    let count = table.len() / 2;
-    let mut sheet = booking::blank_sheet(frame);
-    let mut k = 0;
-    while k < count {
-        sheet = booking::enter(sheet, k, booking_at(table, k));
-        k += 1;
-    }
-    booking::admit(sheet)
+    booking::admit(sheet_of(table, frame))
 }
 
 // Whether the frame, the count of numbers or the count of servers is out of range.
@@ -64,6 +60,29 @@ fn is_out_of_range(numbers: usize, frame: Length) -> bool
         return true;
     }
     numbers % 2 != 0
+}
+
+// The booking sheet of a table in range.
+fn sheet_of(table: &[u64], frame: Length) -> Sheet
+    requires { ⌜ outOfRange (length (now table)) frame ≡ false ⌝ }
+    ensures { λ r. ⌜ r ≡ sheetOf frame (listed (now (table .entry))) ⌝ }
+{
+    let blank = Booking {
+        budget: Length { ticks: 0 },
+        period: Length { ticks: 0 },
+    };
+    let count = table.len() / 2;
+    let mut bookings = [blank; sizes::MOST_SERVERS];
+    let mut k = 0;
+    while k < count {
+        bookings[k] = booking_at(table, k);
+        k += 1;
+    }
+    Sheet {
+        frame,
+        count,
+        bookings,
+    }
 }
 
 // The k-th pair.

@@ -5,7 +5,8 @@ use mathlib.Core.List.{List, _++_}
 use mathlib.Core.Path.{_≡_, refl, _∙_, ap, ap₂}
 use Rattle.arrival.specs.declared.Arrival.{Arrival}
 use Rattle.booking.specs.Admission.{shares}
-use Rattle.books.proofs.SameWork.{finish-same, shares-same, summary-same, trace-same}
+use Rattle.booking.proofs.AdmissionLaws.{shares-same}
+use Rattle.books.proofs.SameWork.{finish-same, summary-same, trace-same}
 use Rattle.finish.specs.Finish.{Finish}
 use Rattle.judgement.proofs.UnusedLaws.{arrival-same, booking-same, header-same}
 use Rattle.judgement.specs.Judgement.{judged}
@@ -39,7 +40,7 @@ module _ {file other : List ℕ} (same : SameUse file other) where
       ap₂ (λ (n : ℕ) (l : List Segment). admittedLine n (w .frame .ticks) ++ segmentLines (take mostShown l)
       ++ segmentsLine (length l) (length (take mostShown l)) ++ each (w .arrivals) (jobLine w)
       ++ each (w .table .count) (λ i. serverLine i (summaryOf w i)))
-      (shares-same _ (w .horizon) _ (w .arrivals) (booking-same same) (arrival-same same))
+      (shares-same _ _ (booking-same same))
       (trace-same _ _ _ _ (booking-same same) (arrival-same same))
       ∙ ap₂ (λ (jobs servers : List ℕ). admittedLine (shares (v .frame) (v .table)) (v .frame .ticks) ++ segmentLines (take mostShown (traceOf v))
       ++ segmentsLine (length (traceOf v)) (length (take mostShown (traceOf v))) ++ jobs ++ servers)

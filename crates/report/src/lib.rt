@@ -13,6 +13,7 @@ ghost use Rattle.summary.specs.Summary.{blank, traceOf};
 ghost use Rattle.page.specs.Page.{added, page, each};
 ghost use Rattle.trace.specs.Written.{segmentIn};
 ghost use Rattle.workfile.specs.Work.{work};
+use booking::Foot;
 use clock::Length;
 use refusal::Verdict;
 use summary::Summary;
@@ -75,20 +76,20 @@ fn least(a: usize, b: usize) -> usize
     if a < b { a } else { b }
 }
 
-// The sum of the shares of an accepted file's table.
+// The sum of the shares of an accepted file's table: what its booking sheet takes off the frame.
 fn shares(file: &[u8]) -> Length
     requires { ⌜ Accepted (now file) ⌝ }
     ensures { λ r. ⌜ r .ticks ≡ shares (work (now (file .entry)) .frame) (work (now (file .entry)) .table) ⌝ }
 {
     let h = workfile::header_of(file);
-    let servers = h.servers.count;
-    let mut sheet = booking::blank_sheet(h.frame);
-    let mut k = 0;
-    while k < servers {
-        sheet = booking::enter(sheet, k, listing::booking_of(file, h, k));
-        k += 1;
+    let foot = booking::foot_of(listing::sheet_of(file, h));
+    match foot {
+        Foot::Left(left) => Length {
+            ticks: h.frame.ticks - left.ticks,
+        },
+        Foot::Over => Length { ticks: 0 },
+        Foot::Faulty(_) => Length { ticks: 0 },
     }
-    sheet.sum
 }
 
 // The lines of the first segments of a trace list.

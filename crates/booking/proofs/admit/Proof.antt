@@ -1,16 +1,29 @@
--- `booking::admit` meets its promise: the two tests in the order of the rules.
-use borrow.Author.Tests.{lt-ltb, le-ltb}
+-- `booking::admit` meets its promise: what each case of the foot says is what admission says.
+use borrow.Author.Needs.{needs}
+use Rattle.booking.proofs.SheetLaws.{foot-told}
 use Rattle.booking.proofs.admit.Statement.{statement}
 use Rattle.booking.proofs.admit.Tie as tie
 
+foot-of-requires : tie.Need-foot-of-requires
+foot-of-requires c κs = search needs
+
+enum-known-foot : tie.Need-enum-known-foot
+enum-known-foot c = search needs
+
+enum-told : tie.Need-enum-told
+enum-told c = search needs
+
+enum-told-2 : tie.Need-enum-told-2
+enum-told-2 c = search needs
+
 returns : tie.Need-returns
-returns c = rw (c .if1 .taken)
+returns c = foot-told (c .before .before .before .before .args .sheet) (c .before .before .before .foot-of .ensures) (c .before .foot .given .1)
 
 returns-2 : tie.Need-returns-2
-returns-2 c = rw (c .before .before .if1 .left, lt-ltb _ _ (c .if2 .taken))
+returns-2 c = foot-told (c .before .before .before .args .sheet) (c .before .before .foot-of .ensures) (c .enum-told .given .1)
 
 returns-3 : tie.Need-returns-3
-returns-3 c = rw (c .before .before .if1 .left, le-ltb _ _ (c .if2 .left))
+returns-3 c = foot-told (c .before .before .before .args .sheet) (c .before .before .foot-of .ensures) (c .enum-told2 .given .1)
 
 pub admit-spec : {M : Type 1} → statement M
-admit-spec = tie.close (tie.spec returns returns-2 returns-3)
+admit-spec = tie.close (tie.spec foot-of-requires enum-known-foot enum-told enum-told-2 returns returns-2 returns-3)

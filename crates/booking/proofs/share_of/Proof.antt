@@ -1,33 +1,23 @@
--- `booking::share_of` meets its promise: past the test the booking has no fault, so T is not 0 and the share is at most the frame.
-use borrow.Author.Needs.{needs}
-use mathlib.Core.Bool.{false}
-use mathlib.Core.Path.{_≡_, sym, _∙_}
+-- `booking::share_of` meets its promise: a booking without a fault has a period other than 0, and a share of at most the frame.
 use native.Mathlib.Omega.{arith}
+use borrow.Author.Needs.{needs}
 use Rattle.booking.proofs.share_of.Statement.{statement}
 use Rattle.booking.proofs.share_of.Tie as tie
-use Rattle.booking.specs.Share.{faultyBooking}
-use Rattle.booking.proofs.ShareLaws.{Sound, sound, share-le-frame}
+use Rattle.booking.proofs.ShareLaws.{sound, share-le-frame}
 
-is-faulty-requires : tie.Need-is-faulty-requires
-is-faulty-requires c κs = search needs
+div-t3 : tie.Need-div-t3
+div-t3 c =
+    let start = c .before .before in
+    let good = sound (start .args .frame) (start .args .b) (start .pre) in
+    omega (arith, good .budget, good .fits)
+
+mul-t4 : tie.Need-mul-t4
+mul-t4 c =
+    let start = c .before .before .before in
+    omega (arith, share-le-frame (start .args .frame) (start .args .b) (sound (start .args .frame) (start .args .b) (start .pre) .fits))
 
 returns : tie.Need-returns
-returns c = rw (sym (c .before .is-faulty .ensures) ∙ c .if1 .taken)
-
-no-fault : (c : tie.Else1) → faultyBooking (c .before .before .args .frame) (c .before .before .args .b) ≡ false
-no-fault c = sym (c .before .is-faulty .ensures) ∙ c .if1 .left
-
-good : (c : tie.Else1) → Sound (c .before .before .args .frame) (c .before .before .args .b)
-good c = sound (c .before .before .args .frame) (c .before .before .args .b) (no-fault c)
-
-div-h : tie.Need-div-t8
-div-h c = omega (arith, good c .budget, good c .fits)
-
-mul-q : tie.Need-mul-t9
-mul-q c = omega (arith, share-le-frame (c .before .before .args .frame) (c .before .before .args .b) (good c .fits))
-
-returns-2 : tie.Need-returns-2
-returns-2 c = rw (no-fault c)
+returns c = search needs
 
 pub share-of-spec : {M : Type 1} → statement M
-share-of-spec = tie.close (tie.spec is-faulty-requires returns div-h mul-q returns-2)
+share-of-spec = tie.close (tie.spec div-t3 mul-t4 returns)

@@ -1,11 +1,16 @@
 -- `judgement::judge` meets its promise: the tests for 1, 2 and 3 in that order, and what passes them is for the work: what admission
 -- refuses is refused, and the rest is for the arrivals.
+use Prim.Native.Nat.{ℕ}
 use borrow.Author.Needs.{needs}
 use lib.ListN.{length}
 use mathlib.Core.Bool.{false}
+use mathlib.Core.List.{List}
 use mathlib.Core.Path.{_≡_, sym, _∙_, ap}
+use Rattle.booking.proofs.SheetLaws.{sheet-admission}
+use Rattle.booking.specs.Admission.{admission}
 use Rattle.refusal.specs.Refusals.{onPaper}
-use Rattle.workfile.specs.Work.{workUnder}
+use Rattle.workfile.specs.Work.{Work, workUnder}
+use Rattle.workfile.specs.declared.Header.{Header}
 use Rattle.judgement.specs.Judgement.{lengthOutOfRange, sizesOutOfRange, layoutBroken, workJudged, judged}
 use Rattle.judgement.proofs.JudgementLaws.{sized, judged-length, judged-sizes, judged-layout, judged-work, work-admitted, work-refused}
 use Rattle.judgement.proofs.judge.Statement.{statement}
@@ -30,10 +35,17 @@ in-length c = sym (c .before .is-length-out-of-range .ensures) ∙ c .if1 .left
 in-range : (c : tie.Else2) → sizesOutOfRange (c .before .before .header-of .result) ≡ false
 in-range c = sym (c .before .is-size-out-of-range .ensures) ∙ c .if2 .left
 
-in-place : (c : tie.Else3)
-    → layoutBroken (c .before .before .before .before .header-of .result)
-    (length (c .before .before .before .before .before .before .before .before .args .file .now))
-    ≡ false
+-- the file, the header that was read, and the work under it
+abbrev fileOf : tie.Else3 → List ℕ
+fileOf c = c .before .before .before .before .before .before .before .before .args .file .now
+
+abbrev read : tie.Else3 → Header
+read c = c .before .before .before .before .header-of .result
+
+abbrev found : tie.Else3 → Work
+found c = workUnder (read c) (fileOf c)
+
+in-place : (c : tie.Else3) → layoutBroken (read c) (length (fileOf c)) ≡ false
 in-place c = sym (c .before .is-layout-broken .ensures) ∙ c .if3 .left
 
 returns-2 : tie.Need-returns-2
@@ -52,19 +64,27 @@ returns-3 c =
     (in-range (c .before .before))
     (sym (c .before .is-layout-broken .ensures) ∙ c .if3 .taken))
 
--- the table is for admission, and the judgement of the file that of its work
-admit-requires : tie.Need-admit-requires
-admit-requires c κs = sized _ (in-range (c .before .before))
+sheet-of-requires : tie.Need-sheet-of-requires
+sheet-of-requires c κs = search needs
 
-judged-so : (c : tie.Else3)
-    → judged (c .before .before .before .before .before .before .before .before .args .file .now) (c .before .before .before .before .before .before .before .before .args .places)
-    ≡ workJudged
-    (workUnder (c .before .before .before .before .header-of .result) (c .before .before .before .before .before .before .before .before .args .file .now))
-    (c .before .before .before .before .before .before .before .before .args .places)
-judged-so c =
+admit-requires : tie.Need-admit-requires
+admit-requires c κs = search needs
+
+-- the judgement of the file is that of its work
+judged-so : (c : tie.Else3) (places : ℕ) → judged (fileOf c) places ≡ workJudged (found c) places
+judged-so c places =
     judged-work _ _ (c .before .before .before .before .header-of .ensures) (in-length (c .before .before .before .before .before))
     (in-range (c .before .before))
     (in-place c)
+
+-- what the sheet says is said of its table
+table-says : (c : tie.After-admit)
+    → onPaper (c .admit .result) ≡ admission (found (c .before .before) .frame) (found (c .before .before) .table)
+table-says c =
+    let past = c .before .before in
+    c .admit .ensures
+    ∙ sheet-admission (found past .frame) (found past .table) (sized (read past) (in-range (past .before .before)) .servers)
+    (c .before .sheet-of .ensures)
 
 enum-told : tie.Need-enum-told
 enum-told c = search needs
@@ -77,13 +97,13 @@ enum-told-2 c = search needs
 
 returns-4 : tie.Need-returns-4
 returns-4 c =
-    let admitted = sym (c .before .before .before .admit .ensures) ∙ ap onPaper (c .before .enum-told .given .1) in
-    c .judge-arrivals .ensures ∙ sym (judged-so (c .before .before .before .before) ∙ work-admitted _ _ admitted)
+    let admitted = sym (table-says (c .before .before .before)) ∙ ap onPaper (c .before .enum-told .given .1) in
+    c .judge-arrivals .ensures ∙ sym (judged-so (c .before .before .before .before .before) _ ∙ work-admitted _ _ admitted)
 
 returns-5 : tie.Need-returns-5
 returns-5 c =
     let told = ap onPaper (c .enum-told2 .given .1) in
-    told ∙ sym (judged-so (c .before .before .before) ∙ work-refused _ _ _ _ (sym (c .before .before .admit .ensures) ∙ told))
+    told ∙ sym (judged-so (c .before .before .before .before) _ ∙ work-refused _ _ _ _ (sym (table-says (c .before .before)) ∙ told))
 
 pub judge-spec : {M : Type 1} → statement M
 judge-spec =
@@ -96,6 +116,7 @@ judge-spec =
     returns-2
     is-layout-broken-requires
     returns-3
+    sheet-of-requires
     admit-requires
     enum-told
     judge-arrivals-requires

@@ -1,77 +1,84 @@
--- `report::shares` meets its promise: after k turns the sheet stands as the table's first k bookings leave it, and an accepted file's table is
--- admitted.
-use Prim.Native.Nat.{_-_, _≤_}
-use mathlib.Core.Path.{_∙_}
+-- `report::shares` meets its promise: an accepted file's table is admitted, and at the foot of its sheet stands what the shares leave.
+use Prim.Native.Nat.{_+_, _-_}
+use borrow.Author.Needs.{needs}
+use mathlib.Core.Path.{_≡_, sym, _∙_, ap}
 use native.Mathlib.Omega.{arith}
-use Rattle.booking.proofs.SheetLaws.{Standing, standing-none, standing-entered, sheet-shares}
-use Rattle.books.proofs.Accepted.{booking-read, frame-read, servers-read}
-use Rattle.workfile.specs.Work.{work}
+use Rattle.booking.proofs.SheetLaws.{left-told, left-not-over, left-not-faulty, sheet-foot, admitted-foot}
+use Rattle.booking.specs.Admission.{shares}
+use Rattle.booking.specs.Sheet.{sheetOf}
+use Rattle.booking.specs.declared.Foot.the-variants.{Left}
+use Rattle.books.proofs.Accepted.{frame-read, work-read}
+use Rattle.clock.specs.Clock.{ticks}
+use Rattle.clock.specs.declared.Length.{Length}
+use Rattle.workfile.specs.Work.{Work, work}
 use Rattle.report.proofs.shares.Statement.{statement}
 use Rattle.report.proofs.shares.Tie as tie
 
-abbrev Inv-loop : tie.InvT-loop
-Inv-loop file h servers sheet₀ k₀ sheet k = (k ≤ servers) × Standing (work file .frame) (work file .table) k sheet
+header-of-requires : tie.Need-header-of-requires
+header-of-requires c κs = search needs
 
-abbrev μ-loop : tie.MeasureT-loop
-μ-loop file h servers sheet₀ k₀ sheet k = servers - k
+sheet-of-requires : tie.Need-sheet-of-requires
+sheet-of-requires c κs = search needs
 
-header-of-requires : tie.Need-header-of-requires Inv-loop μ-loop
-header-of-requires c κs = tt
+foot-of-requires : tie.Need-foot-of-requires
+foot-of-requires c κs = search needs
 
-blank-sheet-requires : tie.Need-blank-sheet-requires Inv-loop μ-loop
-blank-sheet-requires c κs = tt
+-- what the foot is
+abbrev workOf : tie.After-foot-of → Work
+workOf c = work (c .before .before .before .before .args .file .now)
 
-loop-holds : tie.Need-loop-holds Inv-loop μ-loop
-loop-holds c = (
-  omega arith,
-  standing-none _ _ (rw (frame-read (c .before .before .before .args .file .now) (c .before .header-of .ensures)) at (c .blank-sheet .ensures)),
-)
+foot-is : (c : tie.After-foot-of)
+    → c .foot-of .result ≡ Left (ticks (workOf c .frame .ticks - shares (workOf c .frame) (workOf c .table)))
+foot-is c =
+    let fit = c .before .before .before .before .pre .fit in
+    c .foot-of .ensures
+    ∙ sheet-foot (workOf c .frame) (workOf c .table) (fit .servers)
+    (c .before .sheet-of .ensures ∙ ap (λ (w : Work). sheetOf (w .frame) (w .table)) (work-read _ (c .before .before .header-of .ensures)))
+    ∙ admitted-foot (workOf c .frame) (workOf c .table) (fit .admitted)
 
-booking-of-requires : tie.Need-booking-of-requires Inv-loop μ-loop
-booking-of-requires c κs = tt
+enum-known-foot : tie.Need-enum-known-foot
+enum-known-foot c = search needs
 
-enter-requires : tie.Need-enter-requires Inv-loop μ-loop
-enter-requires c κs = tt
+enum-told : tie.Need-enum-told
+enum-told c = search needs
 
-add-k : tie.Need-add-k Inv-loop μ-loop
-add-k c =
-    let start = c .before .before .before .before .before .before .before in
-    let count = servers-read (start .args .file .now) (c .before .before .before .before .before .header-of .ensures) in
-    omega (arith, c .before .before .loop-test .taken, count, start .pre .fit .servers)
+enum-told-2 : tie.Need-enum-told-2
+enum-told-2 c = search needs
 
-loop-less : tie.Need-loop-less Inv-loop μ-loop
-loop-less c = omega (arith, c .before .before .loop-test .taken)
+-- what is left and the shares are the frame that was read
+taken-off : (c : tie.After-struct-known2)
+    → c .before .before .before .foot .given .0 .0 .ticks
+    + shares (workOf (c .before .before .before .before .before) .frame) (workOf (c .before .before .before .before .before) .table)
+    ≡ c .before .before .before .before .before .before .before .header-of .result .frame .ticks
+taken-off c =
+    let at = c .before .before .before .before .before in
+    let left = ap (λ (l : Length). l .ticks) (left-told (foot-is at) (c .before .before .before .foot .given .1)) in
+    let frame = ap (λ (l : Length). l .ticks) (frame-read _ (at .before .before .header-of .ensures)) in
+    omega (arith, left, frame, at .before .before .before .before .pre .fit .admitted .within)
 
-loop-again : tie.Need-loop-again Inv-loop μ-loop
-loop-again c =
-    let loop = c .before .before .before .loop in
-    let read = c .before .before .before .before .before .header-of .ensures in (
-      omega (arith, c .before .before .loop-test .taken),
-      standing-entered _ _ (loop .inv .1) (c .before .booking-of .ensures ∙ booking-read _ read (loop .k)) (c .enter .ensures),
-    )
+sub-t7 : tie.Need-sub-t7
+sub-t7 c = omega (arith, taken-off c)
 
-returns : tie.Need-returns Inv-loop μ-loop
-returns c =
-    let loop = c .before .before .loop in
-    let start = c .before .before .before .before .before .before in
-    let fit = start .pre .fit in
-    let count = servers-read (start .args .file .now) (c .before .before .before .before .header-of .ensures) in
-    sheet-shares _ _ (omega (arith, loop .inv .0, count)) (omega (arith, c .before .loop-test .left, count)) (omega (arith, fit .frame-to))
-    (fit .admitted)
-    (loop .inv .1)
+returns : tie.Need-returns
+returns c = omega (arith, taken-off c)
+
+returns-2 : tie.Need-returns-2
+returns-2 c = absurd (left-not-over (foot-is (c .before .before)) (c .enum-told .given .1))
+
+returns-3 : tie.Need-returns-3
+returns-3 c = absurd (left-not-faulty (foot-is (c .before .before)) (c .enum-told2 .given .1))
 
 pub shares-spec : {M : Type 1} → statement M
 shares-spec =
     tie.close
     (tie.spec
-    Inv-loop
-    μ-loop
     header-of-requires
-    blank-sheet-requires
-    loop-holds
-    booking-of-requires
-    enter-requires
-    add-k
-    loop-less
-    loop-again
-    returns)
+    sheet-of-requires
+    foot-of-requires
+    enum-known-foot
+    sub-t7
+    enum-told
+    enum-told-2
+    returns
+    returns-2
+    returns-3)
