@@ -355,6 +355,30 @@ case("exactly full: 49 servers of 1/49", pack(49, 12, [(1, 49)] * 49, A1), 8, 2)
 case("exactly full: thirds, sixths and ninths", pack(18, 12, [(1, 3), (1, 6), (2, 9), (1, 18), (2, 9)], A1), 8, 2)
 case("5: a seventh too much, each share rounded down would fit",
      pack(42, 12, [(3, 7), (3, 6), (3, 42), (1, 42)], A1), 8, 2, (5, 0))
+# The booking sheet: each share is taken off what is left. A frame that is used to its last tick, and the same table with a tick more at
+# the first, a middle and the last server; their periods are H, so that a tick of Q is a tick of the frame. (No first server alone is
+# over: with Q at most T a share is at most H.)
+for H, n in [(64, 3), (64, 64), (604800, 9), (604800, 64)]:
+    full = [(H // n, H)] * (n - 1) + [(H // n + H % n, H)]
+    case("exactly full: %d servers, H %d" % (n, H), pack(H, 12, full, A1), 8, 2)
+    for k in (0, n // 2, n - 1):
+        more = full[:k] + [(full[k][0] + 1, H)] + full[k + 1:]
+        case("5: %d servers, H %d, a tick over at server %d" % (n, H, k), pack(H, 12, more, A1), 8, 2, (5, 0))
+# One tick is left, and a share of two meets it at the second, a middle and the last server, with servers of one tick behind it.
+for at in (1, 32, 63):
+    met = [(604800 - at, 604800)] + [(1, 604800)] * (at - 1) + [(2, 604800)] + [(1, 604800)] * (63 - at)
+    case("5: 64 servers, one tick is left for the share of two at server %d" % at, pack(604800, 12, met, A1), 8, 2, (5, 0))
+# An overrun does not hide a faulty server behind it, wherever that stands.
+for at in (2, 32, 63):
+    met = [(604800, 604800)] * at + [(1, 604799)] + [(604800, 604800)] * (63 - at)
+    case("4 and 5: over at server 1 already, a bad server at place %d" % at, pack(604800, 12, met, A1), 8, 2, (4, at))
+case("4 and 5: over at server 1 already, bad servers at 40 and 50",
+     pack(604800, 12, [(1, 1)] * 40 + [(0, 1)] + [(1, 1)] * 9 + [(2, 1)], A1), 8, 2, (4, 40))
+# The week of nine societies leaves 1,800 ticks (docs/RULES.md has its booking sheet): a tenth booking takes them, or is a tick over.
+WEEK = [(7200, 86400), (600, 3600), (5400, 43200), (3600, 86400), (3600, 21600), (86400, 604800), (5400, 86400), (14400, 86400), (900, 21600)]
+case("the week's nine societies", pack(604800, 12, WEEK, A1), 8, 2)
+case("exactly full: the nine and 30 minutes in the week", pack(604800, 12, WEEK + [(1800, 604800)], A1), 8, 2)
+case("5: the nine and a second more", pack(604800, 12, WEEK + [(1801, 604800)], A1), 8, 2, (5, 0))
 case("5 and 6: over and a cost of 0", pack(10, 12, [(2, 5), (7, 10)], [(0, 0, 0)]), 8, 2, (5, 0))
 case("5 and 6: over and an unknown server", pack(10, 12, [(2, 5), (7, 10)], [(0, 2, 1)]), 8, 2, (5, 0))
 case("5 and 8: over and an arrival at N", pack(10, 12, [(2, 5), (7, 10)], [(12, 0, 1)]), 8, 2, (5, 0))

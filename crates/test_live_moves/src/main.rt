@@ -16,6 +16,7 @@ fn main() {
     odd_lists();
     faulty_servers();
     shares();
+    longest_frame();
     many_servers();
     faulty_arrivals();
     after_a_refusal();
@@ -100,6 +101,17 @@ fn shares() {
     opened(&[most, most], 20);
 }
 
+// 5 at its edge with the longest frame: full, and a tick over at the first, the middle and the last server; 4 behind an overrun.
+fn longest_frame() {
+    say::line(b"H 604800: full, and a tick over at the first, the middle and the last server");
+    opened(&[201600, 604800, 201600, 604800, 1, 3], 604800);
+    opened(&[201601, 604800, 201600, 604800, 1, 3], 604800);
+    opened(&[201600, 604800, 201601, 604800, 1, 3], 604800);
+    opened(&[1, 3, 201600, 604800, 201601, 604800], 604800);
+    say::line(b"H 604800: a faulty server behind the overrun");
+    opened(&[1, 1, 1, 604800, 1, 3, 1, 604801], 604800);
+}
+
 // 64 servers, at the last of which work waits first; equal deadlines go to the lower number. 65 are too many.
 fn many_servers() {
     say::line(b"64 servers and 65");
@@ -107,9 +119,29 @@ fn many_servers() {
     budgets_of_one(&mut table);
     let moves = [63, 2, 1, TICK, 0, 1, 7, 1, 1, 5, 1, 1, TICK, 0, 4, 64, 1, 1];
     both(&table, 64, &moves);
+    many_shares();
     let mut longer = [64; 130];
     budgets_of_one(&mut longer);
     opened(&longer, 64);
+}
+
+// 64 servers fill their frame. A tick over at the first, a middle and the last one; and a faulty one behind the overrun.
+fn many_shares() {
+    say::line(b"64 servers: a tick over at the first, a middle and the last server");
+    let mut table = [64; 128];
+    budgets_of_one(&mut table);
+    table[0] = 2;
+    opened(&table, 64);
+    table[0] = 1;
+    table[62] = 2;
+    opened(&table, 64);
+    table[62] = 1;
+    table[126] = 2;
+    opened(&table, 64);
+    say::line(b"64 servers: a faulty server behind the overrun");
+    table[2] = 64;
+    table[126] = 0;
+    opened(&table, 64);
 }
 
 // A list of pairs with every Q set to 1.
