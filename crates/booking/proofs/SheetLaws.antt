@@ -1,8 +1,8 @@
 -- How the shares are taken off what is left line by line, what the foot of a sheet says, and that the sheet of a table stands for the table.
 use Prim.Native.Nat.{ℕ, suc, _+_, _-_, _≤_, _<_}
-use borrow.Author.Tests.{lt-ltb, le-ltb}
+use borrow.Author.Tests.{lt-ltb, le-ltb, ltb-true}
 use lib.Dec.{ltb}
-use mathlib.Core.Bool.{Bool, true, false, cond, true≢false}
+use mathlib.Core.Bool.{Bool, true, false, cond}
 use mathlib.Core.Path.{_≡_, refl, sym, _∙_, ap, ap₂, subst}
 use native.Mathlib.Nat.{le-refl}
 use native.Mathlib.Numerals.{add-one}
@@ -21,7 +21,8 @@ use Rattle.booking.specs.declared.Foot.{Foot}
 use Rattle.booking.specs.declared.Foot.the-variants.{Faulty, Over, Left}
 use Rattle.booking.specs.declared.Sheet.{Sheet}
 use Rattle.booking.specs.Share.{booked, faultyBooking, share}
-use Rattle.booking.specs.Sheet.{footOf, sheetOf, tableOn}
+use Rattle.booking.specs.Sheet.{leftOf, sheetOf, tableOn}
+use Rattle.booking.specs.working.Foot.{footOf}
 use Rattle.booking.proofs.AdmissionLaws.{Admitted, admission-same, firstFaulty-same, shares-same}
 use Rattle.booking.proofs.ShareLaws.{sound-unfaulty}
 
@@ -91,6 +92,25 @@ foot-admits H t = go (ltb (firstFaulty H t) (t .count)) (ltb (H .ticks) (shares 
 pub foot-told : (s : Sheet) {f g : Foot} → f ≡ footOf (s .frame) (tableOn s) → f ≡ g → footSays g ≡ admission (s .frame) (tableOn s)
 foot-told s found told = sym (ap footSays told) ∙ ap footSays found ∙ foot-admits (s .frame) (tableOn s)
 
+-- and what it leaves of the frame
+abbrev pub leftAt : Foot → Length
+leftAt (Faulty first) = ticks 0
+leftAt Over = ticks 0
+leftAt (Left left) = left
+
+foot-leaves : (H : Length) (t : Table) → leftAt (footOf H t) ≡ leftOf H t
+foot-leaves H t = go (ltb (firstFaulty H t) (t .count)) (ltb (H .ticks) (shares H t)) refl
+  where
+    go : (four five : Bool) → ltb (H .ticks) (shares H t) ≡ five
+        → leftAt (cond four (Faulty (firstFaulty H t)) (cond five Over (Left (ticks (H .ticks - shares H t)))))
+        ≡ cond four (ticks 0) (ticks (H .ticks - shares H t))
+    go true five e = refl
+    go false true e = ap ticks (omega (arith, ltb-true (H .ticks) (shares H t) e))
+    go false false e = refl
+
+pub left-told : (s : Sheet) {f g : Foot} → f ≡ footOf (s .frame) (tableOn s) → f ≡ g → leftAt g ≡ leftOf (s .frame) (tableOn s)
+left-told s found told = sym (ap leftAt told) ∙ ap leftAt found ∙ foot-leaves (s .frame) (tableOn s)
+
 -- The sheet of a table stands for it: there is room for all that a table may have.
 module _ (H : Length) (t : Table) (room : t .count ≤ mostServers) {s : Sheet} (read : s ≡ sheetOf H t) where
   same-line : (k : ℕ) → k < t .count → tableOn (sheetOf H t) .booking k ≡ t .booking k
@@ -99,39 +119,17 @@ module _ (H : Length) (t : Table) (room : t .count ≤ mostServers) {s : Sheet} 
   pub sheet-admission : admission (s .frame) (tableOn s) ≡ admission H t
   sheet-admission = ap (λ (x : Sheet). admission (x .frame) (tableOn x)) read ∙ admission-same H (t .count) same-line
 
-  pub sheet-foot : footOf (s .frame) (tableOn s) ≡ footOf H t
-  sheet-foot =
-      ap (λ (x : Sheet). footOf (x .frame) (tableOn x)) read
-      ∙ ap₂ (λ (f u : ℕ). cond (ltb f (t .count)) (Faulty f) (cond (ltb (H .ticks) u) Over (Left (ticks (H .ticks - u)))))
-      (firstFaulty-same H (t .count) same-line)
+  pub sheet-left : leftOf (s .frame) (tableOn s) ≡ leftOf H t
+  sheet-left =
+      ap (λ (x : Sheet). leftOf (x .frame) (tableOn x)) read
+      ∙ ap₂ (λ (f u : ℕ). cond (ltb f (t .count)) (ticks 0) (ticks (H .ticks - u))) (firstFaulty-same H (t .count) same-line)
       (shares-same H (t .count) same-line)
 
--- what the shares of an admitted table do not take is left
-pub admitted-foot : (H : Length) (t : Table) → Admitted H t → footOf H t ≡ Left (ticks (H .ticks - shares H t))
-admitted-foot H t ok =
+-- of an admitted table what is left and the shares are the frame
+pub admitted-left : (H : Length) (t : Table) → Admitted H t → leftOf H t .ticks + shares H t ≡ H .ticks
+admitted-left H t ok =
     rw (
       first-none (t .count) (λ j. faultyBooking H (t .booking j)) (λ j b. sound-unfaulty H (t .booking j) (ok .sound j b)),
       le-ltb (t .count) (t .count) (le-refl (t .count)),
-      le-ltb (H .ticks) (shares H t) (ok .within),
     )
-
--- A foot says one thing.
-abbrev leftAt : Foot → Length
-leftAt (Faulty first) = ticks 0
-leftAt Over = ticks 0
-leftAt (Left left) = left
-
-abbrev isLeft : Foot → Bool
-isLeft (Faulty first) = false
-isLeft Over = false
-isLeft (Left left) = true
-
-module _ {f : Foot} {left : Length} (is : f ≡ Left left) where
-  pub left-told : {other : Length} → f ≡ Left other → other ≡ left
-  left-told e = sym (ap leftAt e) ∙ ap leftAt is
-
-  pub left-not-over : f ≡ Over → ⊥
-  left-not-over e = true≢false (sym (ap isLeft is) ∙ ap isLeft e)
-
-  pub left-not-faulty : {first : ℕ} → f ≡ Faulty first → ⊥
-  left-not-faulty e = true≢false (sym (ap isLeft is) ∙ ap isLeft e)
+    (omega (arith, ok .within))

@@ -1,4 +1,4 @@
--- The booking sheet of a table, and what stands at its foot: "they start from the frame and take each share off what is left" (document 02,
+-- The booking sheet of a table, and what is left on it: "they start from the frame and take each share off what is left" (document 02,
 -- W-205).
 use Prim.Native.Nat.{_-_}
 use lib.Dec.{ltb}
@@ -9,8 +9,6 @@ use Rattle.clock.specs.declared.Length.{Length}
 use Rattle.counting.specs.Places.{places}
 use Rattle.sizes.specs.Sizes.{mostServers}
 use Rattle.booking.specs.Admission.{Table, firstFaulty, shares}
-use Rattle.booking.specs.declared.Foot.{Foot}
-use Rattle.booking.specs.declared.Foot.the-variants.{Faulty, Over, Left}
 use Rattle.booking.specs.declared.Sheet.{Sheet}
 use Rattle.booking.specs.Share.{booked}
 
@@ -22,8 +20,6 @@ sheetOf H t = record { frame = H; count = t .count; bookings = places mostServer
 abbrev pub tableOn : Sheet → Table
 tableOn s = record { count = s .count; booking = λ k. getD (s .bookings) k (booked 0 0) }
 
--- the first faulty booking, or that the shares are more than the frame, or what is left of it once they are taken off
-abbrev pub footOf : Length → Table → Foot
-footOf H t =
-    cond (ltb (firstFaulty H t) (t .count)) (Faulty (firstFaulty H t))
-    (cond (ltb (H .ticks) (shares H t)) Over (Left (ticks (H .ticks - shares H t))))
+-- what the shares leave of the frame; nothing where a booking is faulty, or where they are more than the frame
+abbrev pub leftOf : Length → Table → Length
+leftOf H t = cond (ltb (firstFaulty H t) (t .count)) (ticks 0) (ticks (H .ticks - shares H t))

@@ -8,7 +8,8 @@ ghost use Rattle.clock.specs.Clock.{ticks};
 ghost use Rattle.refusal.specs.Refusals.{onPaper};
 ghost use Rattle.booking.specs.Admission.{admission, firstFaulty};
 ghost use Rattle.booking.specs.Share.{booked, faultyBooking, share};
-ghost use Rattle.booking.specs.Sheet.{footOf, tableOn};
+ghost use Rattle.booking.specs.Sheet.{leftOf, tableOn};
+ghost use Rattle.booking.specs.working.Foot.{footOf};
 use clock::Length;
 use refusal::Refusal;
 use refusal::Verdict;
@@ -30,7 +31,7 @@ pub struct Sheet {
 }
 
 // What stands at the foot of a sheet.
-pub enum Foot {
+enum Foot {
     // The first booking that is faulty.
     Faulty(usize),
     // A share is more than what is left for it.
@@ -51,8 +52,20 @@ pub fn admit(sheet: Sheet) -> Verdict
     }
 }
 
+// What the shares on a sheet leave of its frame; nothing where the table is not admitted.
+pub fn left_on(sheet: Sheet) -> Length
+    ensures { λ r. ⌜ r ≡ leftOf (sheet .frame) (tableOn sheet) ⌝ }
+{
+    let foot = foot_of(sheet);
+    match foot {
+        Foot::Faulty(_) => Length { ticks: 0 },
+        Foot::Over => Length { ticks: 0 },
+        Foot::Left(left) => left,
+    }
+}
+
 // The foot of a sheet. All bookings are looked at for a fault before the first share is taken off, so that an overrun hides none.
-pub fn foot_of(sheet: Sheet) -> Foot
+fn foot_of(sheet: Sheet) -> Foot
     ensures { λ r. ⌜ r ≡ footOf (sheet .frame) (tableOn sheet) ⌝ }
 {
     let first = first_faulty(sheet);

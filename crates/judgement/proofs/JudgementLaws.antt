@@ -14,7 +14,7 @@ use Rattle.workfile.specs.Layout.{header}
 use Rattle.workfile.specs.Work.{Work, workUnder, work}
 use Rattle.workfile.specs.declared.Header.{Header}
 use Rattle.judgement.specs.Judgement.{lengthOutOfRange, sizesOutOfRange, layoutBroken, workJudged, judged}
-use Rattle.judgement.specs.working.Header.{listJudged}
+use Rattle.judgement.specs.working.Arrivals.{listJudged}
 
 -- what a header has that is not refused by 2
 pub record Sized (h : Header) : Type 0 where

@@ -11,7 +11,7 @@ use Rattle.arrival.specs.declared.Arrival.{Arrival}
 use Rattle.refusal.specs.Refusals.{refused, accepted}
 use Rattle.workfile.specs.Work.{Work}
 use Rattle.judgement.specs.Judgement.{backward, arrivalJudged, arrivalsJudged}
-use Rattle.judgement.specs.working.Header.{listJudged}
+use Rattle.judgement.specs.working.Arrivals.{listJudged}
 
 module _ (w : Work) where
   -- the moment of the arrival listed before the k-th; for the first 0, which no moment is before

@@ -3,7 +3,7 @@ ghost use mathlib.Core.Path.{_≡_};
 ghost use Rattle.refusal.specs.Refusals.{onPaper};
 ghost use Rattle.workfile.specs.Work.{workUnder};
 ghost use Rattle.judgement.specs.Judgement.{lengthOutOfRange, sizesOutOfRange, layoutBroken, judged};
-ghost use Rattle.judgement.specs.working.Header.{listJudged};
+ghost use Rattle.judgement.specs.working.Arrivals.{listJudged};
 use refusal::Refusal;
 use refusal::Verdict;
 use workfile::Header;

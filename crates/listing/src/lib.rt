@@ -27,6 +27,17 @@ pub fn booking_of(file: &[u8], h: Header, k: usize) -> Booking
     )
 }
 
+// Arrival k, likewise.
+pub fn arrival_of(file: &[u8], h: Header, k: usize) -> Arrival
+    ensures { λ r. ⌜ r ≡ workUnder h (now (file .entry)) .arrival k ⌝ }
+{
+    reader::arrival_from(
+        file,
+        h.arrivals.offset,
+        bytes_of(file, sizes::ARRIVAL_BYTES, k),
+    )
+}
+
 // The booking sheet of the table: its first 64 bookings.
 pub fn sheet_of(file: &[u8], h: Header) -> Sheet
     ensures { λ r. ⌜ r ≡ sheetOf (h .frame) (workUnder h (now (file .entry)) .table) ⌝ }
@@ -48,17 +59,6 @@ pub fn sheet_of(file: &[u8], h: Header) -> Sheet
         count,
         bookings,
     }
-}
-
-// Arrival k, likewise.
-pub fn arrival_of(file: &[u8], h: Header, k: usize) -> Arrival
-    ensures { λ r. ⌜ r ≡ workUnder h (now (file .entry)) .arrival k ⌝ }
-{
-    reader::arrival_from(
-        file,
-        h.arrivals.offset,
-        bytes_of(file, sizes::ARRIVAL_BYTES, k),
-    )
 }
 
 // Whether the server records go on beyond byte `at`.

@@ -13,7 +13,6 @@ ghost use Rattle.summary.specs.Summary.{blank, traceOf};
 ghost use Rattle.page.specs.Page.{added, page, each};
 ghost use Rattle.trace.specs.Written.{segmentIn};
 ghost use Rattle.workfile.specs.Work.{work};
-use booking::Foot;
 use clock::Length;
 use refusal::Verdict;
 use summary::Summary;
@@ -82,13 +81,9 @@ fn shares(file: &[u8]) -> Length
     ensures { λ r. ⌜ r .ticks ≡ shares (work (now (file .entry)) .frame) (work (now (file .entry)) .table) ⌝ }
 {
     let h = workfile::header_of(file);
-    let foot = booking::foot_of(listing::sheet_of(file, h));
-    match foot {
-        Foot::Left(left) => Length {
-            ticks: h.frame.ticks - left.ticks,
-        },
-        Foot::Over => Length { ticks: 0 },
-        Foot::Faulty(_) => Length { ticks: 0 },
+    let left = booking::left_on(listing::sheet_of(file, h));
+    Length {
+        ticks: h.frame.ticks - left.ticks,
     }
 }
 
