@@ -552,6 +552,9 @@ function draw_legend(top,    px) {
     printf "<path class=\"u\" d=\"M%d %.1fh24\"/>\n", px, top - 4
     open_mark(px + 28, top - 4, "an open job")
     text_at(px + 40, top, "p", cut ? "open when the run stops, further on" : "open when the run stops")
+    # The counts beside a lane, where it has room for them.
+    if (lane > 60) text_at(24, top + 22, "p", "postponed: its budget was spent, and its deadline moved on; " \
+        "interrupted: one of its segments ended before the run stopped, with work of it waiting, and another server had the very next tick")
 }
 
 END {

@@ -1,7 +1,7 @@
 // What the plain C day reports share: what a run keeps, what every run does alike, and the text. report.c and events.c bring a
 // run each, and print the same text for every file. input.h has the work file and its judgement, moment.h the servers.
 //
-// All of it follows document 01 and uses nothing of the Rattle code.
+// All of it follows document 01, as W-201 of document 02 has changed it, and uses nothing of the Rattle code.
 //
 // Standard input: a work file. Standard output: the report. The status is 0 for every file, a refused one too, and 1 where
 // reading or writing fails.
@@ -80,15 +80,16 @@ static void finish_job(u32 k, u64 now)
         longest_response[s] = response;
 }
 
-// The current segment, if there is one, ends now. Its server was interrupted if work was left; what has arrived at this
+// The current segment, if there is one, ends, and the very next tick goes to this server, or to NOBODY where it is idle or behind the
+// horizon. The segment's server was interrupted (W-201) if the next one is another server and work was left; what has arrived at this
 // very moment does not count, so the work left was noted after the last tick.
-static void end_segment(u64 now)
+static void end_segment(u64 next)
 {
     if (current.length == 0)
         return;
     if (segment_count <= MOST_SHOWN)
         trace[segment_count - 1] = current;
-    if (now < horizon && left_behind > 0)
+    if (next != NOBODY && next != current.server && left_behind > 0)
         interrupted[current.server]++;
     current.length = 0;
 }
@@ -97,7 +98,7 @@ static void end_segment(u64 now)
 static void note_ticks(u64 now, u64 ticks, u64 server, u64 under)
 {
     if (current.length == 0 || current.server != server || current.deadline != under) {
-        end_segment(now);
+        end_segment(server);
         segment_count++;
         current.start = now;
         current.server = server;

@@ -1,4 +1,4 @@
-// The day report of document 01 in plain C, from event to event: the second plain program that bench/run measures against.
+// The day report of document 01, with W-201 of document 02, in plain C, from event to event: the second plain program that bench/run measures against.
 //
 // It prints what report.c prints, for every file; tests/differential holds it to that. day_report.h has all that is not the run
 // itself. Here the clock goes from one event to the next: the server that has the node gets at once all the ticks up to the
@@ -107,17 +107,18 @@ static void postpone_and_set_key(u32 s)
 }
 
 // A server that was postponed now comes first all the same. So it goes on, budget by budget, as long as its next deadline still
-// comes first and the budget ends before `end`, where it stops in any case. Each budget is a segment that ends with work waiting.
+// comes first and the budget ends before `end`, where it stops in any case. Each budget is a segment, and the last of them is then the
+// current one: the others end as the server carries on, which is no interruption.
 static u64 spend_whole_budgets(u32 s, u64 now, u64 end)
 {
     u64 q = budget[s], t = period[s], under = deadline[s], others = key_of_others(s), spent = 0;
-    left_behind = end - now; // whether work waits is asked, and not how much
-    end_segment(now);
+    end_segment(s);
     for (; now + q < end && key_under(under, s) < others; now += q, under += t, spent++)
         if (segment_count + spent < MOST_SHOWN)
             trace[segment_count + spent] = (struct segment){now, q, s, under};
+    if (spent > 0)
+        current = (struct segment){now - q, q, s, under - t};
     segment_count += spent;
-    interrupted[s] += spent;
     postponed[s] += spent;
     deadline[s] = under;
     set_key(s, key_under(under, s));
@@ -154,10 +155,10 @@ static void event_to_event(void)
         while (now < until && someone_waits())
             now = give_node_to(first_server(), now, until);
         if (now < until)
-            end_segment(now);
+            end_segment(NOBODY);
         now = until;
     }
-    end_segment(horizon);
+    end_segment(NOBODY);
 }
 
 #ifndef WITHOUT_MAIN

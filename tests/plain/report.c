@@ -1,4 +1,4 @@
-// The day report of document 01 in plain C, for a reader who knows C and that document.
+// The day report of document 01, with W-201 of document 02, in plain C, for a reader who knows C and these.
 //
 // The scheduler goes through the clock tick by tick, as the section "One moment of the clock" says it, and leaves out no tick.
 // So it serves two ends: tests/differential compares the proved program with it, and bench/run takes it as the plain
@@ -24,14 +24,14 @@ static void tick_by_tick(void)
         take_arrivals(now);
         u32 s = pick();
         if (s == NOBODY) {
-            end_segment(now);
+            end_segment(NOBODY);
             continue;
         }
         note_ticks(now, 1, s, deadline[s]);
         serve_job(s, now);
         left_behind = waiting[s];
     }
-    end_segment(horizon);
+    end_segment(NOBODY);
 }
 
 #ifndef WITHOUT_MAIN

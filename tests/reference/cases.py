@@ -61,7 +61,7 @@ P_REC = {0: (1, 1, 2, 2, (10, 10)), 1: (2, 2, 1, 0, (8, 5))}
 case("File P, lists that fit exactly", pack(*P), 20, 3, segs=P_SEGS, fin=P_FIN, rec=P_REC)
 case("File P, longer lists", pack(*P), 64, 7, segs=P_SEGS, fin=P_FIN, rec=P_REC)
 case("File Q", pack(5, 4, [(1, 5)], [(1, 0, 5)]), 16, 2,
-     segs=[(1, 1, 0, 6), (2, 1, 0, 11), (3, 1, 0, 16)], fin=[OPEN], rec={0: (1, 0, 3, 2, None)})
+     segs=[(1, 1, 0, 6), (2, 1, 0, 11), (3, 1, 0, 16)], fin=[OPEN], rec={0: (1, 0, 3, 0, None)})
 case("the empty file of 24 bytes", pack(1, 0, [], []), 8, 2, segs=[])
 case("the empty file, both lists of length 0", pack(1, 0, [], []), 0, 0, segs=[])
 case("n = 65 with a bad offset: 2", pack(10, 12, [(1, 5)], [], n=65, hso=3), 8, 2, (2, 0))
@@ -104,13 +104,13 @@ case("kept waker: its old deadline wins the node",
      rec={0: (2, 2, 1, 0, (4, 3)), 1: (1, 1, 1, 1, (5, 5))})
 case("two waiting jobs at one moment wake the server once, the second only adds work",
      pack(6, 20, [(3, 6)], [(2, 0, 1), (2, 0, 1), (2, 0, 2)]), 32, 3,
-     segs=[(2, 3, 0, 8), (5, 1, 0, 14)], fin=[3, 4, 6], rec={0: (3, 3, 1, 1, (7, 4))})
+     segs=[(2, 3, 0, 8), (5, 1, 0, 14)], fin=[3, 4, 6], rec={0: (3, 3, 1, 0, (7, 4))})
 case("a busy server only gets the work: no second budget",
      pack(6, 20, [(2, 6), (3, 6)], [(0, 0, 1), (0, 1, 3), (1, 0, 4), (3, 0, 1)]), 32, 4,
      segs=[(0, 2, 0, 6), (2, 3, 1, 6), (5, 2, 0, 12), (7, 2, 0, 18)])
 case("a busy server gets two jobs at one moment at which an idle one would renew: nothing renews",
      pack(4, 12, [(4, 4)], [(0, 0, 4), (1, 0, 1), (1, 0, 1)]), 32, 3, segs=[(0, 4, 0, 4), (4, 2, 0, 8)], fin=[4, 5, 6],
-     rec={0: (3, 3, 1, 1, (13, 5))})
+     rec={0: (3, 3, 1, 0, (13, 5))})
 case("a server whose budget was refilled in advance wakes: keeps, 12 < 18",
      pack(6, 20, [(2, 6)], [(0, 0, 2), (3, 0, 1)]), 32, 2, segs=[(0, 2, 0, 6), (3, 1, 0, 12)],
      rec={0: (2, 2, 1, 0, (3, 2))})
@@ -128,13 +128,13 @@ case("waking with a product beyond 32 bits: renews, 7102 * 604800, which wraps, 
      segs=[(0, 98, 0, 604800), (9000, 1, 0, 613800)], fin=[98, 9001])
 case("waking with d = 7102 * 604800, beyond 2^32: keeps and comes behind server 1",
      pack(604800, 7120, [(1, 604800), (5, 604800)], [(0, 0, 7101), (7110, 0, 1), (7110, 1, 2)]), 16, 3,
-     fin=[7101, 7113, 7112], rec={0: (2, 2, 7102, 7100, (7104, 7101))})
+     fin=[7101, 7113, 7112], rec={0: (2, 2, 7102, 0, (7104, 7101))})
 
 # ------------------------------------------------- ends of jobs and of the run
 case("open jobs: one finished, one begun, one never begun",
      pack(10, 8, [(3, 10), (5, 10)], [(0, 0, 2), (1, 0, 20), (2, 1, 1), (7, 0, 1)]), 32, 5,
      segs=[(0, 3, 0, 10), (3, 1, 1, 12), (4, 3, 0, 20), (7, 1, 0, 30)], fin=[2, OPEN, 4, OPEN],
-     rec={0: (3, 1, 2, 2, (2, 2)), 1: (1, 1, 0, 0, (2, 2))})
+     rec={0: (3, 1, 2, 1, (2, 2)), 1: (1, 1, 0, 0, (2, 2))})
 case("a job that finishes exactly at N", pack(10, 8, [(4, 10)], [(4, 0, 4)]), 8, 1,
      segs=[(4, 4, 0, 14)], fin=[8], rec={0: (1, 1, 1, 0, (4, 4))})
 case("a job that needs one tick more than N leaves", pack(10, 8, [(5, 10)], [(4, 0, 5)]), 8, 1,
@@ -146,8 +146,13 @@ case("the arrival at N - 1 with cost 2 is open", pack(10, 8, [(5, 10)], [(7, 0, 
 case("N 1", pack(1, 1, [(1, 1)], [(0, 0, 1)]), 8, 1, segs=[(0, 1, 0, 1)], fin=[1], rec={0: (1, 1, 1, 0, (1, 1))})
 case("a segment with work waiting that ends at N is not interrupted",
      pack(10, 5, [(5, 10)], [(0, 0, 9)]), 8, 1, segs=[(0, 5, 0, 10)], rec={0: (1, 0, 1, 0, None)})
-case("a segment with work waiting that ends at N - 1 is interrupted",
-     pack(10, 6, [(5, 10)], [(0, 0, 9)]), 8, 1, segs=[(0, 5, 0, 10), (5, 1, 0, 20)], rec={0: (1, 0, 1, 1, None)})
+case("a segment with work waiting that ends at N, where another server would be next: not interrupted",
+     pack(10, 5, [(5, 10), (5, 10)], [(0, 0, 9), (0, 1, 3)]), 8, 2, segs=[(0, 5, 0, 10)], rec={0: (1, 0, 1, 0, None)})
+case("a segment with work waiting that ends at N - 1, and another server is next: interrupted",
+     pack(10, 6, [(5, 10), (5, 10)], [(0, 0, 9), (0, 1, 3)]), 8, 2, segs=[(0, 5, 0, 10), (5, 1, 1, 10)],
+     rec={0: (1, 0, 1, 1, None), 1: (1, 0, 0, 0, None)})
+case("a segment with work waiting that ends at N - 1, and its server carries on: not interrupted",
+     pack(10, 6, [(5, 10)], [(0, 0, 9)]), 8, 1, segs=[(0, 5, 0, 10), (5, 1, 0, 20)], rec={0: (1, 0, 1, 0, None)})
 case("a job that ends on its last budget tick: the deadline has moved, a postponement with no work",
      pack(10, 10, [(3, 10)], [(0, 0, 3)]), 8, 1, segs=[(0, 3, 0, 10)], fin=[3], rec={0: (1, 1, 1, 0, (3, 3))})
 case("a job that ends on its last budget tick and the next one at once: a new segment, not interrupted",
@@ -178,7 +183,7 @@ case("ties again and again with Q 1", pack(3, 9, [(1, 3), (1, 3), (1, 3)], [(0, 
 case("a lower-numbered server wakes and takes over at equal deadlines",
      pack(10, 20, [(2, 5), (6, 10)], [(0, 1, 8), (5, 0, 2)]), 32, 2,
      segs=[(0, 5, 1, 10), (5, 2, 0, 10), (7, 1, 1, 10), (8, 2, 1, 20)], fin=[10, 7],
-     rec={0: (1, 1, 1, 0, (2, 2)), 1: (1, 1, 1, 2, (10, 10))})
+     rec={0: (1, 1, 1, 0, (2, 2)), 1: (1, 1, 1, 1, (10, 10))})
 case("a higher-numbered server that wakes at equal deadlines waits",
      pack(10, 20, [(6, 10), (2, 5)], [(0, 0, 8), (5, 1, 2)]), 32, 2,
      segs=[(0, 6, 0, 10), (6, 2, 1, 10), (8, 2, 0, 20)], fin=[10, 8],
@@ -207,13 +212,23 @@ case("just idle after a last budget tick, gets work at the ending moment and los
      pack(20, 20, [(2, 5), (2, 20)], [(0, 1, 2), (2, 1, 2), (2, 0, 2)]), 32, 3,
      segs=[(0, 2, 1, 20), (2, 2, 0, 7), (4, 2, 1, 40)], rec={1: (2, 2, 2, 0, (6, 4))})
 case("a lone server with Q 1 that never stops", pack(4, 16, [(1, 4)], [(0, 0, 100)]), 64, 1,
-     segs=[(t, 1, 0, 4 + 4 * t) for t in range(16)], rec={0: (1, 0, 16, 15, None)})
+     segs=[(t, 1, 0, 4 + 4 * t) for t in range(16)], rec={0: (1, 0, 16, 0, None)})
+case("postponed again and again, and interrupted only where another server gets the next tick",
+     pack(8, 12, [(1, 2), (2, 8)], [(0, 0, 6), (0, 1, 2)]), 32, 2,
+     segs=[(0, 1, 0, 2), (1, 1, 0, 4), (2, 1, 0, 6), (3, 1, 0, 8), (4, 2, 1, 8), (6, 1, 0, 10), (7, 1, 0, 12)], fin=[8, 6],
+     rec={0: (1, 1, 6, 1, (8, 8)), 1: (1, 1, 1, 0, (6, 6))})
+case("the same over 50 budgets, with a trace list that is full long before",
+     pack(100, 80, [(1, 2), (3, 100)], [(0, 0, 60), (0, 1, 3)]), 8, 2, count=61, fin=[63, 53],
+     rec={0: (1, 1, 60, 1, (63, 63)), 1: (1, 1, 1, 0, (53, 53))})
+case("done, an idle tick, and then another server: not interrupted",
+     pack(10, 12, [(3, 10), (3, 10)], [(0, 0, 2), (3, 1, 2)]), 16, 2, segs=[(0, 2, 0, 10), (3, 2, 1, 13)], fin=[2, 5],
+     rec={0: (1, 1, 0, 0, (2, 2)), 1: (1, 1, 0, 0, (2, 2))})
 case("Q 1, T 1, H 1", pack(1, 6, [(1, 1)], [(0, 0, 4), (5, 0, 3)]), 64, 2,
      segs=[(0, 1, 0, 1), (1, 1, 0, 2), (2, 1, 0, 3), (3, 1, 0, 4), (5, 1, 0, 6)], fin=[4, OPEN],
-     rec={0: (2, 1, 5, 3, (4, 4))})
+     rec={0: (2, 1, 5, 0, (4, 4))})
 case("Q = T = H: the whole node, a renewed deadline every period",
      pack(3, 10, [(3, 3)], [(0, 0, 8)]), 64, 1, segs=[(0, 3, 0, 3), (3, 3, 0, 6), (6, 2, 0, 9)], fin=[8],
-     rec={0: (1, 1, 2, 2, (8, 8))})
+     rec={0: (1, 1, 2, 0, (8, 8))})
 case("several servers overrunning", pack(12, 30, [(1, 4), (2, 6), (3, 12)], [(0, 0, 20), (1, 1, 20), (2, 2, 20)]), 64, 3)
 case("servers overrunning beside a well-behaved one: it keeps its bound",
      pack(12, 36, [(1, 6), (1, 4), (7, 12)], [(0, 1, 40), (0, 0, 40), (1, 2, 7), (13, 2, 7), (25, 2, 7)]), 64, 5)
@@ -252,7 +267,8 @@ case("n 0 and m 0 with both offsets beyond the end: 3", pack(10, 9, [], [], hso=
 # ----------------------------------------------------------------- lent lists
 for T in (0, 1, 3, 4, 5, 7, 8, 15, 16, 19):
     case("File P with a trace list of %d" % T, pack(*P), T, 3, segs=P_SEGS, fin=P_FIN, rec=P_REC)
-case("more segments (40) than the trace list holds (16)", pack(5, 40, [(1, 5)], [(0, 0, 60)]), 64, 1, count=40)
+case("more segments (40) than the trace list holds (16)", pack(5, 40, [(1, 5)], [(0, 0, 60)]), 64, 1, count=40,
+     rec={0: (1, 0, 40, 0, None)})
 case("more segments than the trace list of 63 holds", pack(5, 40, [(1, 5)], [(0, 0, 60)]), 63, 1, count=40)
 case("File P with a finish list of 4, one place untouched", pack(*P), 4, 4, fin=P_FIN)
 case("File P with a finish list of 64", pack(*P), 4, 64, fin=P_FIN)
@@ -564,11 +580,16 @@ def large():
          pack(604800, 2419200, [(604800, 604800)], [(0, 0, x) for x in jobs]), 64, 2053,
          segs=[(604800 * i, 604800, 0, 604800 * (i + 1)) for i in range(3)] + [(1814400, 604750, 0, 2419200)],
          fin=[sum(jobs[:i + 1]) for i in range(2053)],
-         rec={0: (2053, 2053, 3, 3, (4343319925, 2419150))})
+         rec={0: (2053, 2053, 3, 0, (4343319925, 2419150))})
 
     case("N 2,419,200, Q 1, T 604800, never stops: 2,419,200 segments, the last job ends at N",
          pack(604800, 2419200, [(1, 604800)], [(0, 0, 604800)] * 4), 64, 4, count=2419200,
-         fin=[604800, 1209600, 1814400, 2419200], rec={0: (4, 4, 2419200, 2419199, (6048000, 2419200))})
+         fin=[604800, 1209600, 1814400, 2419200], rec={0: (4, 4, 2419200, 0, (6048000, 2419200))})
+
+    case("N 2,419,200, two servers with Q 1 in turn: each segment but the last is interrupted",
+         pack(2, 2419200, [(1, 2), (1, 2)], [(0, 0, 604800), (0, 1, 604800)] * 3), 64, 6, count=2419200,
+         fin=[1209599, 1209600, 2419199, 2419200, OPEN, OPEN],
+         rec={0: (3, 2, 1209600, 1209600, (3628798, 2419199)), 1: (3, 2, 1209600, 1209599, (3628800, 2419200))})
 
 
 if "--no-large" not in sys.argv:

@@ -1,4 +1,5 @@
-"""The rules (document 01) in Python, tick by tick, written from the document alone: what a run of a work file has to answer.
+"""The rules (document 01, with W-201 of document 02) in Python, tick by tick, written from the documents alone: what a run of a work
+file has to answer.
 
 run(file, trace, finishes) -> (verdict, segment count, 64 records)
   verdict is ("refused", number, place) or ("accepted",)
@@ -159,7 +160,8 @@ def run(file, trace, finishes):
         if count < room:
             trace[4 * count:4 * count + 4] = [t, end - t, ran[t], under[t]]
         count += 1
-        if end < N and left[end - 1] > 0:
+        # W-201: it ends before N with work of its server waiting, and the very next tick goes to another server; -1 is an idle tick
+        if end < N and left[end - 1] > 0 and ran[end] not in (-1, ran[t]):
             interrupted[ran[t]] += 1
         t = end
 

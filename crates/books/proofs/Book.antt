@@ -12,16 +12,16 @@ use Rattle.books.specs.declared.Current.{Current}
 use Rattle.books.specs.declared.Standing.{Standing}
 use Rattle.books.proofs.tree.Winners.{Tree}
 
--- of segments: the lent list, the interruptions of each server, and the stretch that the run is in
+-- of segments: the lent list, and the stretch that the run is in
 pub record SegmentBook : Type 0 where
   pub list : List ℕ
-  pub interrupted : List ℕ
   pub current : Current
 
--- of turns: the winner tree, the postponements of each server, and the segments
+-- of turns: the winner tree, the postponements and the interruptions of each server, and the segments
 pub record TurnBook : Type 0 where
   pub tree : Tree
   pub postponed : List ℕ
+  pub interrupted : List ℕ
   pub segments : SegmentBook
 
 -- of jobs: which of them each server serves, what is left of that one, and the lent list of finishes
@@ -35,11 +35,12 @@ pub record Book : Type 0 where
   pub jobs : JobBook
 
 -- each from the arrays and lists that the code has
-abbrev pub segmentBook : List ℕ → List ℕ → Current → SegmentBook
-segmentBook list interrupted current = record { list = list; interrupted = interrupted; current = current }
+abbrev pub segmentBook : List ℕ → Current → SegmentBook
+segmentBook list current = record { list = list; current = current }
 
-abbrev pub turnBook : Tree → List ℕ → SegmentBook → TurnBook
-turnBook tree postponed segments = record { tree = tree; postponed = postponed; segments = segments }
+abbrev pub turnBook : Tree → List ℕ → List ℕ → SegmentBook → TurnBook
+turnBook tree postponed interrupted segments =
+    record { tree = tree; postponed = postponed; interrupted = interrupted; segments = segments }
 
 abbrev pub jobBook : List ℕ → List ℕ → List ℕ → JobBook
 jobBook job left finishes = record { job = job; left = left; finishes = finishes }
@@ -49,14 +50,14 @@ book turns jobs = record { turns = turns; jobs = jobs }
 
 -- with other segments, with another tree, or with other work of the current stretch's server
 abbrev pub withSegments : Book → SegmentBook → Book
-withSegments b segments = book (turnBook (b .turns .tree) (b .turns .postponed) segments) (b .jobs)
+withSegments b segments = book (turnBook (b .turns .tree) (b .turns .postponed) (b .turns .interrupted) segments) (b .jobs)
 
 abbrev pub withTree : Book → Tree → Book
-withTree b tree = book (turnBook tree (b .turns .postponed) (b .turns .segments)) (b .jobs)
+withTree b tree = book (turnBook tree (b .turns .postponed) (b .turns .interrupted) (b .turns .segments)) (b .jobs)
 
 abbrev pub withWaits : SegmentBook → Length → SegmentBook
 withWaits b waits =
-    segmentBook (b .list) (b .interrupted)
+    segmentBook (b .list)
     (record {
       start = b .current .start;
       server = b .current .server;
@@ -66,9 +67,8 @@ withWaits b waits =
     })
 
 -- two books that are the same in each part are the same
-pub segments-same : {a b : SegmentBook} → a .list ≡ b .list → a .interrupted ≡ b .interrupted → a .current ≡ b .current → a ≡ b
-segments-same {a} {b} list interrupted current =
-    ap₂ (λ (x y : List ℕ). segmentBook x y (a .current)) list interrupted ∙ ap (segmentBook (b .list) (b .interrupted)) current
+pub segments-same : {a b : SegmentBook} → a .list ≡ b .list → a .current ≡ b .current → a ≡ b
+segments-same list current = ap₂ segmentBook list current
 
 pub jobs-same : {a b : JobBook} → a .job ≡ b .job → a .left ≡ b .left → a .finishes ≡ b .finishes → a ≡ b
 jobs-same {a} {b} job left finishes =

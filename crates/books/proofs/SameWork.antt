@@ -24,7 +24,7 @@ use Rattle.dispatcher.specs.Pick.{serverAt}
 use Rattle.dispatcher.specs.Start.{atStart, startAt}
 use Rattle.dispatcher.specs.declared.Dispatcher.{Dispatcher}
 use Rattle.finish.specs.Finish.{Finish, costFor, finishedAt, isOpen, servedBy, workOf, isJob}
-use Rattle.history.specs.Choice.{History}
+use Rattle.history.specs.Choice.{History, isForAnother}
 use Rattle.judgement.specs.Judgement.{arrivalJudged, arrivalsJudged, finishesJudged, workJudged}
 use Rattle.moments.specs.Moments.{atMoment, choiceOf, history, postponedBy, postpones, ready, taken, turn, waitingAt}
 use Rattle.refusal.specs.Refusals.{Said, accepted, andThen, refused}
@@ -141,13 +141,18 @@ module _ (H : Length) (N : Moment) (n m : ℕ) {b b′ : ℕ → Booking} {a a�
   unfolding waitingAt
   waiting-same i = fun-ext (λ t. ap (λ (d : Dispatcher). serverAt d i .waiting .ticks) (at-same t))
 
+  -- the interruptions by what waits, what the ticks are given to, and the trace
+  countedBy : ℕ → (ℕ → ℕ) → History → List Segment → ℕ
+  countedBy i waiting h =
+      howMany (λ s.
+      eqb (s .server) i
+      && (ltb (endOf s .tick) (N .tick) && ltb 0 (waiting (endOf s .tick)) && isForAnother i (h (endOf s .tick))))
+
   interrupted-same : (i : ℕ) → interruptedOf w i ≡ interruptedOf v i
-  unfolding interruptedOf
+  unfolding interruptedOf countedBy
   interrupted-same i =
-      ap₂ (λ (f : ℕ → ℕ) (l : List Segment).
-      howMany (λ s. ltb (endOf s .tick) (N .tick) && (eqb (s .server) i && ltb 0 (f (endOf s .tick)))) l)
-      (waiting-same i)
-      trace-same
+      ap₂ (λ (f : ℕ → ℕ) (h : History). countedBy i f h (traceOf w)) (waiting-same i) history-same
+      ∙ ap (countedBy i (waitingAt v i) (history v)) trace-same
 
   postponed-same : (i : ℕ) → postponedBy w i (N .tick) ≡ postponedBy v i (N .tick)
   unfolding postponedBy

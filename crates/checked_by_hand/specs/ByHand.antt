@@ -131,11 +131,12 @@ checkedByHand =
     ∷ "server 0 arrived 1 finished 1 total 10 longest 10 postponed 2 interrupted 2"
     ∷ "server 1 arrived 2 finished 2 total 8 longest 5 postponed 1 interrupted 0"
     ∷ [])
-    -- File Q: "segments (1, 1, 0, 6), (2, 1, 0, 11), (3, 1, 0, 16), the job open, postponed 3, response absent, interrupted 2"
+    -- File Q: "segments (1, 1, 0, 6), (2, 1, 0, 11), (3, 1, 0, 16), the job open, postponed 3, response absent"; "File Q's interrupted
+    -- becomes 0" (document 02, W-201)
     ∷ accepting fileQ 1
     ∷ tracing fileQ (segmentOf 1 1 0 6 ∷ segmentOf 2 1 0 11 ∷ segmentOf 3 1 0 16 ∷ [])
     ∷ finishing fileQ 0 isOpen
-    ∷ summing fileQ 0 (record { arrived = 1; finished = 0; postponed = 3; interrupted = 2; response = Absent })
+    ∷ summing fileQ 0 (record { arrived = 1; finished = 0; postponed = 3; interrupted = 0; response = Absent })
     -- and its report, with an open job's line
     ∷ reporting fileQ
     ("admitted 1 of 5"
@@ -144,7 +145,7 @@ checkedByHand =
     ∷ "segment 3 1 0 16"
     ∷ "segments 3 shown 3"
     ∷ "job 0 0 1 open -"
-    ∷ "server 0 arrived 1 finished 0 total - longest - postponed 3 interrupted 2"
+    ∷ "server 0 arrived 1 finished 0 total - longest - postponed 3 interrupted 0"
     ∷ [])
     -- "A 24-byte file with H 1, N 0, no servers, no arrivals, both offsets 24 gives `admitted 0 of 1` and `segments 0 shown 0`."
     ∷ reporting (1 ∷ 0 ∷ 0 ∷ 24 ∷ 0 ∷ 24 ∷ []) ("admitted 0 of 1" ∷ "segments 0 shown 0" ∷ [])

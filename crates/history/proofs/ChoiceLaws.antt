@@ -2,14 +2,14 @@
 use Prim.Native.Nat.{ℕ, suc, _+_, _≤_, _<_}
 use borrow.Author.Tests.{eqb-true, eq-eqb, ne-eqb}
 use lib.Dec.{eqb}
-use mathlib.Core.Bool.{Bool, true, false, false≢true}
+use mathlib.Core.Bool.{Bool, true, false, not, false≢true}
 use mathlib.Core.Path.{_≡_, refl, _∙_, ap, ap₂}
 use Rattle.clock.specs.Clock.{moment}
 use Rattle.clock.specs.declared.Moment.{Moment}
 use Rattle.counting.proofs.CountLaws.{count-all, count-more, count-none, count-step}
 use Rattle.counting.proofs.TestLaws.{and-left, and-right, and-both}
 use Rattle.counting.specs.Count.{count}
-use Rattle.history.specs.Choice.{Choice, nobody, given, History, same, isFor, ticksServed}
+use Rattle.history.specs.Choice.{Choice, nobody, given, History, same, isFor, isForAnother, ticksServed}
 
 pub same-refl : (x : Choice) → same x x ≡ true
 unfolding same
@@ -80,3 +80,16 @@ for-other i j d n = ne-eqb i j n
 pub for-nobody : (i : ℕ) → isFor i nobody ≡ false
 unfolding isFor
 for-nobody i = refl
+
+-- a tick given to another server than i goes to another; i's own does not, nor does an idle one
+pub another-given : (i j : ℕ) (d : Moment) → (i ≡ j → ⊥) → isForAnother i (given j d) ≡ true
+unfolding isForAnother
+another-given i j d n = ap not (ne-eqb i j n)
+
+pub another-own : (i : ℕ) (d : Moment) → isForAnother i (given i d) ≡ false
+unfolding isForAnother
+another-own i d = ap not (eq-eqb i i refl)
+
+pub another-nobody : (i : ℕ) → isForAnother i nobody ≡ false
+unfolding isForAnother
+another-nobody i = refl

@@ -1,7 +1,7 @@
 -- A history: what the tick of each moment is given to. The trace of document 01 is told from it alone.
 use Prim.Native.Nat.{ℕ}
 use lib.Dec.{eqb}
-use mathlib.Core.Bool.{Bool, true, false, _&&_}
+use mathlib.Core.Bool.{Bool, true, false, not, _&&_}
 use Rattle.clock.specs.declared.Moment.{Moment}
 use Rattle.counting.specs.Count.{count}
 
@@ -24,6 +24,11 @@ same (given i d) (given j e) = eqb i j && eqb (d .tick) (e .tick)
 unfoldable pub isFor : ℕ → Choice → Bool
 isFor i nobody = false
 isFor i (given j d) = eqb i j
+
+-- whether it "goes to another server" than i (document 02, W-201): an idle tick goes to none
+unfoldable pub isForAnother : ℕ → Choice → Bool
+isForAnother i nobody = false
+isForAnother i (given j d) = not (eqb i j)
 
 -- "the ticks served to that server" before moment t
 unfoldable pub ticksServed : History → ℕ → ℕ → ℕ

@@ -95,26 +95,17 @@ pub(crate) fn times(n: u64, one: Length) -> Length
 }
 
 // The stretches of n whole budgets of server i from t on, one after the other. Once the list is full their segments are only counted.
-pub(crate) fn pass(
-    list: &mut [u64],
-    interrupted: &mut [u64; sizes::MOST_SERVERS],
-    c: Current,
-    t: Moment,
-    i: usize,
-    s: Server,
-    n: u64,
-) -> Current
+pub(crate) fn pass(list: &mut [u64], c: Current, t: Moment, i: usize, s: Server, n: u64) -> Current
     requires { ⌜ BudgetsFrom (t .tick) i s n ⌝ }
-    requires { ⌜ Bounded (clockEnd + 1) (t .tick) (segmentBook (now list) (now interrupted) c) ⌝ }
-    ensures { λ r. ⌜ segmentBook (now (list .exit)) (now (interrupted .exit)) r ≡ turnedOn (segmentBook (now (list .entry)) (now (interrupted .entry)) c) (t .tick) i s n ⌝ }
+    requires { ⌜ Bounded (clockEnd + 1) (t .tick) (segmentBook (now list) c) ⌝ }
+    ensures { λ r. ⌜ segmentBook (now (list .exit)) r ≡ turnedOn (segmentBook (now (list .entry)) c) (t .tick) i s n ⌝ }
 {
     let written = lesser(n, until_full(list.len() / 4, c.count));
-    let current = pass_each(list, interrupted, c, t, i, s, written);
+    let current = pass_each(list, c, t, i, s, written);
     if written == n {
         return current;
     }
     let skipped = n - written;
-    interrupted[i] += skipped;
     last_of(t, i, s, n - 1, current.count + skipped as usize)
 }
 
@@ -150,18 +141,10 @@ fn last_of(t: Moment, i: usize, s: Server, n: u64, ended: usize) -> Current
 }
 
 // The same, with each stretch gone through.
-fn pass_each(
-    list: &mut [u64],
-    interrupted: &mut [u64; sizes::MOST_SERVERS],
-    c: Current,
-    t: Moment,
-    i: usize,
-    s: Server,
-    n: u64,
-) -> Current
+fn pass_each(list: &mut [u64], c: Current, t: Moment, i: usize, s: Server, n: u64) -> Current
     requires { ⌜ BudgetsFrom (t .tick) i s n ⌝ }
-    requires { ⌜ Bounded (clockEnd + 1) (t .tick) (segmentBook (now list) (now interrupted) c) ⌝ }
-    ensures { λ r. ⌜ segmentBook (now (list .exit)) (now (interrupted .exit)) r ≡ turnedOn (segmentBook (now (list .entry)) (now (interrupted .entry)) c) (t .tick) i s n ⌝ }
+    requires { ⌜ Bounded (clockEnd + 1) (t .tick) (segmentBook (now list) c) ⌝ }
+    ensures { λ r. ⌜ segmentBook (now (list .exit)) r ≡ turnedOn (segmentBook (now (list .entry)) c) (t .tick) i s n ⌝ }
 {
     let mut current = c;
     let mut at = t;
@@ -169,7 +152,7 @@ fn pass_each(
     let mut waiting = s.waiting;
     let mut k = 0;
     while k < n {
-        current = stretches::turn_to(list, interrupted, current, at, i, deadline);
+        current = stretches::turn_to(list, current, at, i, deadline);
         waiting = less(waiting, s.budget);
         current.waits = waiting;
         at = clock::later(at, s.budget);

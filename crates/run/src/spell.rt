@@ -34,11 +34,13 @@ pub(crate) fn go(
     rest: Length,
     room: Length,
 ) -> Gone
-    requires { ⌜ MayGo (t .tick) i s (rest .ticks) (room .ticks) (turnBook (treeOf leaves (now keys)) (now postponed) (segmentBook (now list) (now interrupted) c)) ⌝ }
-    ensures { λ r. ⌜ SpellLeaves (t .tick) i s (rest .ticks) (room .ticks) (turnBook (treeOf leaves (now (keys .entry))) (now (postponed .entry)) (segmentBook (now (list .entry)) (now (interrupted .entry)) c)) (turnBook (treeOf leaves (now (keys .exit))) (now (postponed .exit)) (segmentBook (now (list .exit)) (now (interrupted .exit)) (r .current))) r ⌝ }
+    requires { ⌜ MayGo (t .tick) i s (rest .ticks) (room .ticks) (turnBook (treeOf leaves (now keys)) (now postponed) (now interrupted) (segmentBook (now list) c)) ⌝ }
+    ensures { λ r. ⌜ SpellLeaves (t .tick) i s (rest .ticks) (room .ticks) (turnBook (treeOf leaves (now (keys .entry))) (now (postponed .entry)) (now (interrupted .entry)) (segmentBook (now (list .entry)) c)) (turnBook (treeOf leaves (now (keys .exit))) (now (postponed .exit)) (now (interrupted .exit)) (segmentBook (now (list .exit)) (r .current))) r ⌝ }
 {
     let p = plan(keys, leaves, i, s, rest, room);
-    let current = pass_through(list, interrupted, c, t, i, s.deadline, p);
+    let current = pass_through(list, c, t, i, s.deadline, p);
+    // Only here: the budgets behind the ticks are this server's own, and idle time interrupts nobody.
+    stretches::interrupt(interrupted, c, i);
     let root = tree::set_winner(keys, leaves, i, p.key);
     postponed[i] += p.postponed;
     let server = p.last;
@@ -100,7 +102,6 @@ fn plan(
 // The stretches of a spell of server i from t on, and the one that the run is in then.
 fn pass_through(
     list: &mut [u64],
-    interrupted: &mut [u64; sizes::MOST_SERVERS],
     c: Current,
     t: Moment,
     i: usize,
@@ -108,25 +109,17 @@ fn pass_through(
     p: PlannedSpell,
 ) -> Current
     requires { ⌜ BudgetsFrom (t .tick + p .ticks .ticks) i (p .after) (p .budgets) ⌝ }
-    requires { ⌜ Bounded clockEnd (t .tick) (segmentBook (now list) (now interrupted) c) ⌝ }
-    ensures { λ r. ⌜ segmentBook (now (list .exit)) (now (interrupted .exit)) r ≡ afterSpell (segmentBook (now (list .entry)) (now (interrupted .entry)) c) (t .tick) i deadline p ⌝ }
+    requires { ⌜ Bounded clockEnd (t .tick) (segmentBook (now list) c) ⌝ }
+    ensures { λ r. ⌜ segmentBook (now (list .exit)) r ≡ afterSpell (segmentBook (now (list .entry)) c) (t .tick) i deadline p ⌝ }
 {
     let ticks = p.ticks;
     let budgets = p.budgets;
     let after = p.after;
     let waits = after.waiting;
-    let mut current = stretches::turn_to(list, interrupted, c, t, i, deadline);
+    let mut current = stretches::turn_to(list, c, t, i, deadline);
     current.waits = waits;
     if budgets == 0 {
         return current;
     }
-    budgets::pass(
-        list,
-        interrupted,
-        current,
-        clock::later(t, ticks),
-        i,
-        after,
-        budgets,
-    )
+    budgets::pass(list, current, clock::later(t, ticks), i, after, budgets)
 }

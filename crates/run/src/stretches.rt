@@ -3,7 +3,7 @@ ghost use mathlib.Core.Path.{_≡_};
 ghost use Prim.Native.Nat.{_<_};
 ghost use lib.ListN.{getD};
 ghost use Rattle.books.proofs.Book.{segmentBook};
-ghost use Rattle.books.proofs.stretches.Interruptions.{interruptedAfter};
+ghost use Rattle.books.proofs.stretches.Interruptions.{interruptionsAfter};
 ghost use Rattle.books.proofs.stretches.Segmented.{atRest};
 ghost use Rattle.books.proofs.stretches.Segments.{listAfter, countAfter};
 ghost use Rattle.books.proofs.stretches.Turns.{MayEnd, stays, turned};
@@ -29,45 +29,29 @@ pub(crate) fn at_rest() -> Current
 }
 
 // The tick at t goes to nobody.
-pub(crate) fn idle(
-    list: &mut [u64],
-    interrupted: &mut [u64; sizes::MOST_SERVERS],
-    c: Current,
-    t: Moment,
-) -> Current
+pub(crate) fn idle(list: &mut [u64], c: Current, t: Moment) -> Current
     requires { ⌜ MayEnd (t .tick) c ⌝ }
-    requires { ⌜ getD (now interrupted) (c .server) 0 < lastTick ⌝ }
-    ensures { λ r. ⌜ segmentBook (now (list .exit)) (now (interrupted .exit)) r ≡ turned (segmentBook (now (list .entry)) (now (interrupted .entry)) c) (t .tick) mostServers (moment 0) ⌝ }
+    ensures { λ r. ⌜ segmentBook (now (list .exit)) r ≡ turned (segmentBook (now (list .entry)) c) (t .tick) mostServers (moment 0) ⌝ }
 {
-    turn_to(
-        list,
-        interrupted,
-        c,
-        t,
-        sizes::MOST_SERVERS,
-        Moment { tick: 0 },
-    )
+    turn_to(list, c, t, sizes::MOST_SERVERS, Moment { tick: 0 })
 }
 
 // The tick at t goes to server i under this deadline. Where that is another than before, the stretch before it has ended.
 pub(crate) fn turn_to(
     list: &mut [u64],
-    interrupted: &mut [u64; sizes::MOST_SERVERS],
     c: Current,
     t: Moment,
     i: usize,
     deadline: Moment,
 ) -> Current
     requires { ⌜ MayEnd (t .tick) c ⌝ }
-    requires { ⌜ getD (now interrupted) (c .server) 0 < lastTick ⌝ }
-    ensures { λ r. ⌜ segmentBook (now (list .exit)) (now (interrupted .exit)) r ≡ turned (segmentBook (now (list .entry)) (now (interrupted .entry)) c) (t .tick) i deadline ⌝ }
+    ensures { λ r. ⌜ segmentBook (now (list .exit)) r ≡ turned (segmentBook (now (list .entry)) c) (t .tick) i deadline ⌝ }
 {
     let waits = c.waits;
     if goes_on(c, i, deadline) {
         return c;
     }
     let count = end_segment(list, c, t);
-    interrupt(interrupted, c);
     Current {
         start: t,
         server: i,
@@ -87,16 +71,13 @@ fn goes_on(c: Current, i: usize, deadline: Moment) -> bool
     false
 }
 
-// One interruption more of the server whose stretch has ended, where work of it waits.
-fn interrupt(interrupted: &mut [u64; sizes::MOST_SERVERS], c: Current)
+// Server i has the next tick: one interruption more of the stretch's server, where it is interrupted by that.
+pub(crate) fn interrupt(interrupted: &mut [u64; sizes::MOST_SERVERS], c: Current, i: usize)
     requires { ⌜ getD (now interrupted) (c .server) 0 < lastTick ⌝ }
-    ensures { λ _. ⌜ now (interrupted .exit) ≡ interruptedAfter c (now (interrupted .entry)) ⌝ }
+    ensures { λ _. ⌜ now (interrupted .exit) ≡ interruptionsAfter c i (now (interrupted .entry)) ⌝ }
 {
     let server = c.server;
-    if server >= sizes::MOST_SERVERS {
-        return;
-    }
-    if c.waits.ticks > 0 {
+    if summary::interrupted_by(server, c.waits, i) {
         interrupted[server] += 1;
     }
 }

@@ -96,9 +96,9 @@ fn to_moment(
     left: &mut [u64; sizes::MOST_SERVERS],
     behind: &[usize; sizes::MOST_ARRIVALS],
 ) -> Standing
-    requires { ⌜ MayTravel (now file) (now behind) (until .tick) (lentIn (work (now file)) (from .moment .tick) (from .current) (now list) (now finishes)) (standingAt from) (book (turnBook (treeOf leaves (now keys)) (now postponed) (segmentBook (now list) (now interrupted) (from .current))) (jobBook (now job) (now left) (now finishes))) ⌝ }
+    requires { ⌜ MayTravel (now file) (now behind) (until .tick) (lentIn (work (now file)) (from .moment .tick) (from .current) (now list) (now finishes)) (standingAt from) (book (turnBook (treeOf leaves (now keys)) (now postponed) (now interrupted) (segmentBook (now list) (from .current))) (jobBook (now job) (now left) (now finishes))) ⌝ }
     ensures { λ r. ⌜ r .moment ≡ until ⌝ }
-    ensures { λ r. ⌜ Travels (lentIn (work (now (file .entry))) (from .moment .tick) (from .current) (now (list .entry)) (now (finishes .entry))) (standingAt r) (book (turnBook (treeOf leaves (now (keys .exit))) (now (postponed .exit)) (segmentBook (now (list .exit)) (now (interrupted .exit)) (r .current))) (jobBook (now (job .exit)) (now (left .exit)) (now (finishes .exit)))) ⌝ }
+    ensures { λ r. ⌜ Travels (lentIn (work (now (file .entry))) (from .moment .tick) (from .current) (now (list .entry)) (now (finishes .entry))) (standingAt r) (book (turnBook (treeOf leaves (now (keys .exit))) (now (postponed .exit)) (now (interrupted .exit)) (segmentBook (now (list .exit)) (r .current))) (jobBook (now (job .exit)) (now (left .exit)) (now (finishes .exit)))) ⌝ }
 {
     let mut d = from.dispatcher;
     let mut c = from.current;
@@ -119,7 +119,7 @@ fn to_moment(
             root = keys[1];
         }
         if root == clock::LAST_TICK {
-            c = stretches::idle(list, interrupted, c, t);
+            c = stretches::idle(list, c, t);
             t = next;
             d.clock = t;
         } else {

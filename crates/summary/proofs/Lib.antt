@@ -1,3 +1,4 @@
 pub mod BoundLaws
+pub mod InterruptedLaws
 pub mod Promises
 pub mod SummaryLaws

@@ -10,6 +10,7 @@ use Rattle.counting.specs.Count.{count}
 use Rattle.counting.specs.Places.{places}
 use Rattle.counting.specs.Totals.{total, longest}
 use Rattle.finish.specs.Finish.{Finish, isOpen, finishedAt, finish, isJob}
+use Rattle.history.specs.Choice.{isForAnother}
 use Rattle.moments.specs.Moments.{history, postponedBy, waitingAt}
 use Rattle.sizes.specs.Sizes.{mostServers}
 use Rattle.trace.specs.Ticks.{endOf, sumOver}
@@ -63,13 +64,14 @@ module _ (w : Work) (f : ℕ → Finish) (i : ℕ) where
 unfoldable pub howMany : (Segment → Bool) → List Segment → ℕ
 howMany p = sumOver (λ s. cond (p s) 1 0)
 
--- a segment of server i that ends "with work of their server still waiting, looked at before the arrivals of the ending moment"
-abbrev pub leavesWork : Work → ℕ → Segment → Bool
-leavesWork w i s = eqb (s .server) i && ltb 0 (waitingAt w i (endOf s .tick))
+-- whether a segment of server i that ends at t counts as interrupted (document 02, W-201): it "ends before N with work of its server
+-- waiting", looked at before the arrivals of t, "and the very next tick goes to another server"
+abbrev pub interruptedAt : Work → ℕ → ℕ → Bool
+interruptedAt w i t = ltb t (w .horizon .tick) && ltb 0 (waitingAt w i t) && isForAnother i (history w t)
 
--- "Interrupted counts the segments that end before N" and leave work so
+-- how many segments of server i do
 unfoldable pub interruptedOf : Work → ℕ → ℕ
-interruptedOf w i = howMany (λ s. ltb (endOf s .tick) (w .horizon .tick) && leavesWork w i s) (traceOf w)
+interruptedOf w i = howMany (λ s. eqb (s .server) i && interruptedAt w i (endOf s .tick)) (traceOf w)
 
 -- the record of server i, by the finish of each job and by how often it was postponed and interrupted
 abbrev pub summaryBy : Work → (ℕ → Finish) → (postponed interrupted : ℕ) → ℕ → Summary

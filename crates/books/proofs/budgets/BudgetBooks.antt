@@ -16,25 +16,27 @@ use Rattle.moments.proofs.OneGo.{servedFor, ranFor}
 use Rattle.server.specs.declared.Server.{Server}
 use Rattle.sizes.specs.Sizes.{mostServers}
 use Rattle.books.proofs.Book.{Run, here, jobBook, Book, SegmentBook, turnBook, book, withWaits}
-use Rattle.books.proofs.budgets.Budgets.{budgetsOn, ranBudgets, turnedOn, budgets-more, on-own, on-none, on-more}
+use Rattle.books.proofs.budgets.Budgets.{budgetsOn, ranBudgets, turnedOn, on-server, budgets-more, on-own, on-none, on-more}
+use Rattle.books.proofs.stretches.Interruptions.{interruptionsAfter, none-of-itself}
 use Rattle.books.proofs.stretches.Turns.{turned}
 use Rattle.books.proofs.travel.EventBooks.{kept-ran, ran-jobs}
 use Rattle.books.proofs.travel.Kept.{Kept}
 use Rattle.books.proofs.travel.Stands.{NoneBefore}
 
--- a book with other postponements, other segments, and other work left
-abbrev pub bookWith : Book → List ℕ → SegmentBook → List ℕ → Book
-bookWith b postponed segments left =
-    book (turnBook (b .turns .tree) postponed segments) (jobBook (b .jobs .job) left (b .jobs .finishes))
+-- a book with other counts, other segments, and other work left
+abbrev pub bookWith : Book → (postponed interrupted : List ℕ) → SegmentBook → List ℕ → Book
+bookWith b postponed interrupted segments left =
+    book (turnBook (b .turns .tree) postponed interrupted segments) (jobBook (b .jobs .job) left (b .jobs .finishes))
 
--- the book after n whole budgets of server i from t on
+-- the book after n whole budgets of server i from t on, which interrupt nobody
 abbrev pub budgetBook : Book → ℕ → ℕ → Server → ℕ → Book
 budgetBook b t i s n =
-    bookWith b (set (b .turns .postponed) i (getD (b .turns .postponed) i 0 + n)) (turnedOn (b .turns .segments) t i s n)
+    bookWith b (set (b .turns .postponed) i (getD (b .turns .postponed) i 0 + n)) (b .turns .interrupted) (turnedOn (b .turns .segments) t i s n)
     (set (b .jobs .left) i (getD (b .jobs .left) i 0 - n * s .budget .ticks))
 
 module _ {r : Run} {places t j : ℕ} {d : Dispatcher} {i : ℕ} {b : Book} (fit : Fit (r .work) places) (place : i < length (d .servers))
-    (server : i < mostServers) (q : ℕ) (budget : serverAt d i .budget .ticks ≡ suc q) (x : Kept r (here t j d) b) where
+    (server : i < mostServers) (q : ℕ) (budget : serverAt d i .budget .ticks ≡ suc q) (x : Kept r (here t j d) b)
+    (own : b .turns .segments .current .server ≡ i) where
   -- all that is kept after n budgets
   abbrev On : ℕ → Type 0
   On n = Kept r (here (t + n * serverAt d i .budget .ticks) j (ranBudgets d i n)) (budgetBook b t i (serverAt d i) n)
@@ -43,7 +45,7 @@ module _ {r : Run} {places t j : ℕ} {d : Dispatcher} {i : ℕ} {b : Book} (fit
   unfolding turnedOn
   on-start =
       subst₂ (Kept r) (ap₂ (λ (u : ℕ) (e : Dispatcher). here u j e) now (sym (on-none d i place)))
-      (ap₂ (λ (l m : List ℕ). bookWith b l (b .turns .segments) m) (sym same-counts) (sym same-left))
+      (ap₂ (λ (l m : List ℕ). bookWith b l (b .turns .interrupted) (b .turns .segments) m) (sym same-counts) (sym same-left))
       x
     where
       now : t ≡ t + 0 * serverAt d i .budget .ticks
@@ -128,13 +130,21 @@ module _ {r : Run} {places t j : ℕ} {d : Dispatcher} {i : ℕ} {b : Book} (fit
         ap₂ (λ (s u : Server). withWaits (turned (was .turns .segments) before i (s .deadline)) (u .waiting)) (on-own d i place n)
         (ap₂ servedFor (on-own d i place n) (sym budget) ∙ budgets-more (serverAt d i) n full)
 
+    interruptions-next : interruptionsAfter (was .turns .segments .current) i (b .turns .interrupted) ≡ b .turns .interrupted
+    interruptions-next =
+        none-of-itself (was .turns .segments .current) i (b .turns .interrupted)
+        (on-server (b .turns .segments) t i (serverAt d i) n (λ none. own))
+
     on-next : On (suc n)
     on-next =
         subst₂ (Kept r) (ap₂ (λ (u : ℕ) (e : Dispatcher). here u j e) next dispatcher-next)
-        (ap₂ (λ (l : List ℕ) (y : SegmentBook). bookWith b l y (set (was .jobs .left) i (getD (was .jobs .left) i 0 - suc q))) postponed-next
+        (ap₂ (λ (l m : List ℕ). bookWith b l m
+        (withWaits (turned (was .turns .segments) before i (its .deadline)) (servedFor its (suc q) .waiting))
+        (set (was .jobs .left) i (getD (was .jobs .left) i 0 - suc q)))
+        postponed-next
+        interruptions-next
+        ∙ ap₂ (bookWith b (set (b .turns .postponed) i (getD (b .turns .postponed) i 0 + suc n)) (b .turns .interrupted))
         segments-next
-        ∙ ap
-        (bookWith b (set (b .turns .postponed) i (getD (b .turns .postponed) i 0 + suc n)) (turnedOn (b .turns .segments) t i (serverAt d i) (suc n)))
         left-next)
         (kept-ran fit o q horizon-next later-next i picked-one some within spends
         (ran-jobs fit o q horizon-next later-next i picked-one some within spends more))

@@ -104,22 +104,11 @@ budgets-less {s = s} m within go =
       works = omega (arith, mul-le-mul-right (s .budget .ticks) within, go .works);
     }
 
--- Each budget adds one to every bound of the segments.
+-- Each budget adds one to the bound of the segments.
 pub on-bounded : {most t : ℕ} {b : SegmentBook} (i : ℕ) (s : Server) (k : ℕ) → Bounded most t b
     → Bounded (most + k) (t + k * s .budget .ticks) (turnedOn b t i s k)
 unfolding turnedOn
-on-bounded i s zero by =
-    record {
-      from = omega (arith, by .from);
-      counted = omega (arith, by .counted);
-      cut = λ j. omega (arith, by .cut j);
-      places = by .places;
-    }
+on-bounded i s zero by = record { from = omega (arith, by .from); counted = omega (arith, by .counted) }
 on-bounded {most} {t} {b} i s (suc k) by =
     let x = turned-bounded i (budgetsOn s k .deadline) (on-bounded i s k by) in
-    record {
-      from = omega (arith, x .from);
-      counted = omega (arith, x .counted);
-      cut = λ j. omega (arith, x .cut j);
-      places = x .places;
-    }
+    record { from = omega (arith, x .from); counted = omega (arith, x .counted) }

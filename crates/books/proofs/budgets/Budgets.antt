@@ -19,7 +19,7 @@ use Rattle.server.specs.declared.Server.{Server}
 use Rattle.sizes.specs.Sizes.{clockEnd, mostFrame, mostServers}
 use Rattle.books.proofs.Book.{SegmentBook, withWaits}
 use Rattle.books.proofs.tree.Keys.{keyOf, key-works}
-use Rattle.books.proofs.stretches.Turns.{turned}
+use Rattle.books.proofs.stretches.Turns.{turned, turned-own}
 use Rattle.books.proofs.tree.Winners.{Tree, keyAt}
 
 -- a server with a full budget, n budgets later
@@ -36,6 +36,12 @@ unfoldable pub turnedOn : SegmentBook → ℕ → ℕ → Server → ℕ → Seg
 turnedOn b t i s zero = b
 turnedOn b t i s (suc n) =
     withWaits (turned (turnedOn b t i s n) (t + n * s .budget .ticks) i (budgetsOn s n .deadline)) (budgetsOn s (suc n) .waiting)
+
+-- so after a budget the run is in the server's stretch
+pub on-server : (b : SegmentBook) (t i : ℕ) (s : Server) (n : ℕ) → (n ≡ 0 → b .current .server ≡ i) → turnedOn b t i s n .current .server ≡ i
+unfolding turnedOn
+on-server b t i s zero own = own refl
+on-server b t i s (suc n) own = turned-own (turnedOn b t i s n) (t + n * s .budget .ticks) i (budgetsOn s n .deadline) .0
 
 -- what a server within its ranges has, so that no number here is too large
 pub record Able (s : Server) : Type 0 where

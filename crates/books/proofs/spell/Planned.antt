@@ -38,6 +38,7 @@ pub record MayGo (t i : ℕ) (s : Server) (rest room : ℕ) (b : TurnBook) : Typ
   pub in-time : t + room ≤ clockEnd
   pub bounded : Bounded clockEnd t (b .segments)
   pub few : getD (b .postponed) i 0 ≤ clockEnd
+  pub few-interrupted : getD (b .interrupted) (b .segments .current .server) 0 ≤ clockEnd
 
 pub record Planned (tree : Tree) (i : ℕ) (s : Server) (rest room : ℕ) (p : PlannedSpell) : Type 0 where
   -- at least one tick, within its job, its budget and the time

@@ -21,13 +21,15 @@ use Rattle.server.specs.declared.Server.{Server}
 use Rattle.sizes.specs.Sizes.{mostServers}
 use Rattle.books.specs.declared.Gone.{Gone}
 use Rattle.books.specs.declared.PlannedSpell.{PlannedSpell}
-use Rattle.books.proofs.Book.{Run, Here, here, Book, book, TurnBook, turnBook, JobBook, jobBook}
+use Rattle.books.proofs.Book.{Run, Here, here, Book, book, SegmentBook, TurnBook, turnBook, JobBook, jobBook}
 use Rattle.books.proofs.budgets.BudgetBooks.{budgetBook, on-all}
 use Rattle.books.proofs.budgets.Budgets.{budgetsOn, ranBudgets, turnedOn, Further, wins-picked}
 use Rattle.books.proofs.jobs.JobBooks.{Jobs}
 use Rattle.books.proofs.jobs.Jobs.{NextJob, job-waiting}
 use Rattle.books.proofs.spell.Planned.{Planned}
 use Rattle.books.proofs.spell.SpellLeaves.{SpellLeaves, afterTicks}
+use Rattle.books.proofs.stretches.Interruptions.{interruptionsAfter}
+use Rattle.books.proofs.stretches.Turns.{turned-own}
 use Rattle.books.proofs.travel.BetweenEvents.{Ahead, clock-now, now-within}
 use Rattle.books.proofs.travel.EventBooks.{kept-ran, ran-jobs, ran-jobs-ended}
 use Rattle.books.proofs.travel.Kept.{Kept, kept-tree}
@@ -125,10 +127,13 @@ module _ {r : Run} {h : Here} {b : Book} (fit : Fit (r .work) (length (r .finish
     abbrev postponedThen : ℕ
     postponedThen = getD (b .turns .postponed) i 0 + cond (eqb (suc m) (s .remaining .ticks)) 1 0
 
+    abbrev interruptedThen : List ℕ
+    interruptedThen = interruptionsAfter (b .turns .segments .current) i (b .turns .interrupted)
+
     abbrev ranBook : JobBook → Book
     ranBook jobs =
         book
-        (turnBook (b .turns .tree) (set (b .turns .postponed) i postponedThen)
+        (turnBook (b .turns .tree) (set (b .turns .postponed) i postponedThen) interruptedThen
         (afterTicks (b .turns .segments) (h .t) i (s .deadline) (spell .after)))
         jobs
 
@@ -139,7 +144,8 @@ module _ {r : Run} {h : Here} {b : Book} (fit : Fit (r .work) (length (r .finish
           (λ (x : Server).
           Kept r (here then (h .taken) ran)
           (book
-          (turnBook (b .turns .tree) (set (b .turns .postponed) i postponedThen) (afterTicks (b .turns .segments) (h .t) i (s .deadline) x))
+          (turnBook (b .turns .tree) (set (b .turns .postponed) i postponedThen) interruptedThen
+          (afterTicks (b .turns .segments) (h .t) i (s .deadline) x))
           jobs))
           after-is
           (kept-ran fit (v .kept) m to-horizon none-before i pick (x .some) inside budget stand)
@@ -175,7 +181,7 @@ module _ {r : Run} {h : Here} {b : Book} (fit : Fit (r .work) (length (r .finish
               → Kept r (here (then + n * its .budget .ticks) (h .taken) (ranBudgets ran i n)) (budgetBook (ranBook jobs) then i its n)
           go zero q = let no : ⊥ = omega (arith, within-then .servers i (pick .among) .budget) in absurd no
           go (suc q) e =
-              on-all fit place-then server q e kept-then n (further .full)
+              on-all fit place-then server q e kept-then (turned-own (b .turns .segments) (h .t) i (s .deadline) .0) n (further .full)
               (λ o l.
               wins-picked (b .turns .tree) ran i place-then (pick .among) (within .count) (v .keyed .enough)
               (λ a y other. v .keyed .keys a y ∙ ap (λ (z : Server). keyOf z a) (sym (other-then a other)))
@@ -204,8 +210,11 @@ module _ {r : Run} {h : Here} {b : Book} (fit : Fit (r .work) (length (r .finish
               set-set (d .servers) i (servedFor s (suc m)) (budgetsOn its n)
               ∙ ap (set (d .servers) i) (ap (λ (x : Server). budgetsOn x n) own-then ∙ sym (p .last-is) ∙ sym (x .leaves .server-is))
 
-      turns-are : budgetBook (ranBook jobs) then i its n .turns ≡ turnBook (b .turns .tree) (turns .postponed) (turns .segments)
-      turns-are = ap₂ (turnBook (b .turns .tree)) postponed-are segments-are
+      turns-are : budgetBook (ranBook jobs) then i its n .turns
+          ≡ turnBook (b .turns .tree) (turns .postponed) (turns .interrupted) (turns .segments)
+      turns-are =
+          ap₂ (λ (l : List ℕ) (y : SegmentBook). turnBook (b .turns .tree) l interruptedThen y) postponed-are segments-are
+          ∙ ap (λ (l : List ℕ). turnBook (b .turns .tree) (turns .postponed) l (turns .segments)) (sym (x .leaves .interrupted-is))
         where
           postponed-are : set (set (b .turns .postponed) i postponedThen) i (getD (set (b .turns .postponed) i postponedThen) i 0 + n)
               ≡ turns .postponed

@@ -26,7 +26,7 @@ use Rattle.books.proofs.spell.SpellBooks.{Spelled}
 use Rattle.books.proofs.spell.SpellKeeps.{spell-went}
 use Rattle.books.proofs.spell.SpellLeaves.{SpellLeaves}
 use Rattle.books.proofs.travel.ArrivalTaken.{Taking, next-by}
-use Rattle.books.proofs.travel.BetweenEvents.{Ahead, clock-now, bounded, postponed-few, finishes-long, picked-leaf, picked-server, picked-ranged, picked-waits, picked-charged}
+use Rattle.books.proofs.travel.BetweenEvents.{Ahead, clock-now, bounded, postponed-few, interrupted-few, finishes-long, picked-leaf, picked-server, picked-ranged, picked-waits, picked-charged}
 use Rattle.books.proofs.travel.Travels.{OnTheWay, Travels, travels-jobs}
 
 -- when it is over, at moment t: it has taken some time; and with its job gone on by so much the run is on its way as before
@@ -97,6 +97,7 @@ module _ {r : Run} {h : Here} {b : Book} (fit : Fit (r .work) (length (r .finish
             in-time = omega (arith, reach, ahead .in-time, fit .horizon);
             bounded = bounded fit v;
             few = postponed-few fit v i place;
+            few-interrupted = interrupted-few fit v (b .turns .segments .current .server);
           }
 
       -- It has gone.

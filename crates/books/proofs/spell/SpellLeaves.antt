@@ -1,4 +1,4 @@
--- What a spell of server i leaves that began at t: it went as planned, with the tree, the segments and the postponements kept.
+-- What a spell of server i leaves that began at t: it went as planned, with the tree, the segments and the counts kept.
 use Prim.Native.Nat.{ℕ, _+_}
 use lib.ListN.{getD, set}
 use mathlib.Core.Path.{_≡_}
@@ -9,6 +9,7 @@ use Rattle.books.specs.declared.PlannedSpell.{PlannedSpell}
 use Rattle.books.proofs.Book.{SegmentBook, TurnBook, withWaits}
 use Rattle.books.proofs.budgets.Budgets.{turnedOn}
 use Rattle.books.proofs.spell.Planned.{Planned}
+use Rattle.books.proofs.stretches.Interruptions.{interruptionsAfter}
 use Rattle.books.proofs.stretches.Turns.{turned}
 use Rattle.books.proofs.tree.Winners.{rootOf, Set}
 
@@ -27,4 +28,5 @@ pub record SpellLeaves (t i : ℕ) (s : Server) (rest room : ℕ) (b b′ : Turn
   pub root-is : g .root ≡ rootOf (b′ .tree)
   pub set-now : Set (b .tree) (b′ .tree) i (spell .key)
   pub postponed-is : b′ .postponed ≡ set (b .postponed) i (getD (b .postponed) i 0 + spell .postponed)
+  pub interrupted-is : b′ .interrupted ≡ interruptionsAfter (b .segments .current) i (b .interrupted)
   pub segments-is : b′ .segments ≡ afterSpell (b .segments) t i (s .deadline) spell

@@ -1,169 +1,163 @@
 -- The interruptions of each server, of the segments that ended before the stretch that a run is in.
-use Prim.Native.Nat.{ℕ, zero, suc, _+_, _-_, _≤_, _<_}
-use borrow.Author.Tests.{eq-eqb, ne-eqb, lt-ltb, le-ltb}
-use lib.Dec.{eqb, ltb}
-use lib.ListN.{length, getD, set, length-set}
+use Prim.Native.Nat.{ℕ, _+_, _-_, _≤_, _<_}
+use borrow.Author.Tests.{eq-eqb, ne-eqb}
+use lib.Dec.{eqb}
+use lib.ListN.{length, getD, replicate, set, length-replicate, length-set, getD-replicate, List·getD-eq-default}
 use lib.Seq.{getD-set-same, getD-set-other}
 use mathlib.Core.Bool.{Bool, true, false, cond, _&&_}
-use mathlib.Core.List.{List, [], _++_, append-nil}
-use mathlib.Core.Path.{_≡_, refl, sym, _∙_, ap, ap₂, subst, subst⁻¹}
+use mathlib.Core.List.{List, append-nil}
+use mathlib.Core.Path.{_≡_, refl, sym, _∙_, ap, subst, subst⁻¹}
 use native.Mathlib.Decide.{decLt, ℕ-discrete}
 use native.Mathlib.Nat.{add-sub-of-le, add-zero}
 use native.Mathlib.Omega.{arith}
 use Rattle.clock.specs.declared.Moment.{Moment}
 use Rattle.counting.proofs.TestLaws.{and-false}
-use Rattle.history.specs.Choice.{Choice, nobody, given, History}
+use Rattle.history.specs.Choice.{nobody, given}
 use Rattle.moments.specs.Moments.{history, waitingAt}
 use Rattle.sizes.specs.Sizes.{mostServers}
-use Rattle.summary.specs.Summary.{howMany, leavesWork, interruptedOf}
-use Rattle.trace.proofs.SegmentLaws.{lasting-ends}
+use Rattle.summary.proofs.BoundLaws.{howMany-le}
+use Rattle.summary.proofs.InterruptedLaws.{ends-at-horizon, idle-interrupts-none, interruptedBy, of-nobody, not-by-itself, by-numbers}
+use Rattle.summary.specs.Summary.{howMany, interruptedAt, interruptedOf}
+use Rattle.trace.proofs.SegmentLaws.{begun-few}
 use Rattle.trace.proofs.TickLaws.{sumOver-append}
 use Rattle.trace.specs.Ticks.{endOf, sumOver}
-use Rattle.trace.specs.Trace.{begins, lasting, segmentsOf, begun, trace}
+use Rattle.trace.specs.Trace.{begun, segmentsOf, trace}
 use Rattle.trace.specs.declared.Segment.{Segment}
 use Rattle.workfile.specs.Work.{Work}
 use Rattle.books.specs.declared.Current.{Current}
-use Rattle.books.proofs.stretches.Stretches.{chosen, chosenIn, chosen-server, chosen-nobody, InStretch, stretch-trace}
+use Rattle.books.proofs.stretches.Stretches.{chosenIn, chosen-server, chosen-nobody, InStretch, stretch-trace}
 
--- a stretch that ends is an interruption where work of its server waits
-unfoldable pub interruptedAfter : Current → List ℕ → List ℕ
-interruptedAfter c list =
-    cond (ltb (c .server) mostServers && ltb 0 (c .waits .ticks)) (set list (c .server) (getD list (c .server) 0 + 1)) list
+-- server i has the next tick: where the stretch is interrupted by that, its server has one interruption more
+unfoldable pub interruptionsAfter : Current → ℕ → List ℕ → List ℕ
+interruptionsAfter c i list =
+    cond (interruptedBy (c .server) (c .waits .ticks) i) (set list (c .server) (getD list (c .server) 0 + 1)) list
 
-module _ (c : Current) (list : List ℕ) where
-  pub interrupted-after : c .server < mostServers → 0 < c .waits .ticks
-      → interruptedAfter c list ≡ set list (c .server) (getD list (c .server) 0 + 1)
-  unfolding interruptedAfter
-  interrupted-after l more = rw (lt-ltb (c .server) mostServers l, lt-ltb 0 (c .waits .ticks) more)
+module _ (c : Current) (i : ℕ) (list : List ℕ) where
+  pub one-more : interruptedBy (c .server) (c .waits .ticks) i ≡ true
+      → interruptionsAfter c i list ≡ set list (c .server) (getD list (c .server) 0 + 1)
+  unfolding interruptionsAfter
+  one-more e = rw e refl
 
-  pub interrupted-nobody : mostServers ≤ c .server → interruptedAfter c list ≡ list
-  unfolding interruptedAfter
-  interrupted-nobody l = rw (le-ltb (c .server) mostServers l)
+  pub none-more : interruptedBy (c .server) (c .waits .ticks) i ≡ false → interruptionsAfter c i list ≡ list
+  unfolding interruptionsAfter
+  none-more e = rw e refl
 
-  pub interrupted-done : c .waits .ticks ≤ 0 → interruptedAfter c list ≡ list
-  unfolding interruptedAfter
-  interrupted-done none = rw (le-ltb 0 (c .waits .ticks) none, and-false (ltb (c .server) mostServers))
+  -- a server does not interrupt itself
+  pub none-of-itself : c .server ≡ i → interruptionsAfter c i list ≡ list
+  none-of-itself own = none-more (ap (interruptedBy (c .server) (c .waits .ticks)) (sym own) ∙ not-by-itself (c .server) (c .waits .ticks))
 
-  -- it changes no length
-  pub interrupted-length : length (interruptedAfter c list) ≡ length list
-  unfolding interruptedAfter
-  interrupted-length = go (ltb (c .server) mostServers && ltb 0 (c .waits .ticks))
-    where
-      go : (b : Bool) → length (cond b (set list (c .server) (getD list (c .server) 0 + 1)) list) ≡ length list
-      go true = simp length-set
-      go false = refl
+-- the test of `interruptedOf`
+abbrev isInterrupted : Work → ℕ → Segment → Bool
+isInterrupted w j s = eqb (s .server) j && interruptedAt w j (endOf s .tick)
 
--- each count is that of the segments that ended before e and left work
-abbrev pub Interrupted : Work → List ℕ → ℕ → Type 0
-Interrupted w list e = (j : ℕ) → j < mostServers → getD list j 0 ≡ howMany (leavesWork w j) (trace (history w) e)
+-- each count is that of the segments that ended by e
+pub record Interruptions (w : Work) (e : ℕ) (list : List ℕ) : Type 0 where
+  pub places : length list ≡ mostServers
+  pub each : (j : ℕ) → j < mostServers → getD list j 0 ≡ howMany (isInterrupted w j) (trace (history w) e)
 
--- one segment more leaves work of its own server, where that waits
-leaves-more : {w : Work} {e t i : ℕ} {d : Moment} (j : ℕ) → InStretch w e t (given i d)
-    → howMany (leavesWork w j) (trace (history w) t)
-    ≡ howMany (leavesWork w j) (trace (history w) e) + cond (eqb i j && ltb 0 (waitingAt w j t)) 1 0
-unfolding howMany sumOver
-leaves-more {w} {e} {t} {i} {d} j s =
-    ap (howMany (leavesWork w j)) (stretch-trace s)
-    ∙ sumOver-append _ (trace (history w) e) (segmentsOf (given i d) e (t - e))
-    ∙ ap (λ (n : ℕ). howMany (leavesWork w j) (trace (history w) e) + n)
-    (add-zero (cond (eqb i j && ltb 0 (waitingAt w j (e + (t - e)))) 1 0)
-    ∙ ap (λ (u : ℕ). cond (eqb i j && ltb 0 (waitingAt w j u)) 1 0) (add-sub-of-le (s .from)))
-
--- one more of another server
-interrupted-other : (list : List ℕ) (i j n : ℕ) (b : Bool) → (i ≡ j → ⊥) → getD (cond b (set list i n) list) j 0 ≡ getD list j 0
-interrupted-other list i j n true q = getD-set-other list i j n 0 (λ e. q (sym e))
-interrupted-other list i j n false q = refl
-
-pub interrupted-end : {w : Work} {t : ℕ} (list : List ℕ) (c : Current) → length list ≡ mostServers
-    → InStretch w (c .start .tick) t (chosenIn c) → (c .server < mostServers → c .waits .ticks ≡ waitingAt w (c .server) t)
-    → Interrupted w list (c .start .tick) → Interrupted w (interruptedAfter c list) t
-unfolding interruptedAfter
-interrupted-end {w} {t} list c places s waiting g j b = go (decLt i mostServers)
-  where
-    i : ℕ
-    i = c .server
-
-    waits : ℕ
-    waits = c .waits .ticks
-
-    e : ℕ
-    e = c .start .tick
-
-    go : Dec (i < mostServers) → getD (interruptedAfter c list) j 0 ≡ howMany (leavesWork w j) (trace (history w) t)
-    go (no l) =
-        rw (le-ltb i mostServers (omega arith))
-        (g j b
-        ∙ ap (howMany (leavesWork w j))
-        (sym (append-nil (trace (history w) e))
-        ∙ ap (λ (x : Choice). trace (history w) e ++ segmentsOf x e (t - e)) (sym (chosen-nobody i (c .deadline) (omega arith)))
-        ∙ sym (stretch-trace s)))
-    go (yes l) =
-        rw (lt-ltb i mostServers l)
-        (counted (ℕ-discrete i j) ∙ sym (leaves-more j (subst (InStretch w e t) (chosen-server i (c .deadline) l) s)))
-      where
-        counted : Dec (i ≡ j)
-            → getD (cond (ltb 0 waits) (set list i (getD list i 0 + 1)) list) j 0
-            ≡ howMany (leavesWork w j) (trace (history w) e) + cond (eqb i j && ltb 0 (waitingAt w j t)) 1 0
-        counted (no n) =
-            interrupted-other list i j (getD list i 0 + 1) (ltb 0 waits) n ∙ g j b ∙ rw (ne-eqb i j n)
-            (sym (add-zero (howMany (leavesWork w j) (trace (history w) e))))
-        counted (yes q) = subst
-            (λ (n : ℕ). getD (cond (ltb 0 waits) (set list i (getD list i 0 + 1)) list) n 0 ≡ howMany (leavesWork w n)
-            (trace (history w) e) + cond (eqb i n && ltb 0 (waitingAt w n t)) 1 0) q
-            (rw (eq-eqb i i refl, ← (waiting l)) (own (ltb 0 waits)))
-          where
-            own : (x : Bool) → getD (cond x (set list i (getD list i 0 + 1)) list) i 0 ≡ howMany (leavesWork w i)
-                (trace (history w) e) + cond x 1 0
-            own true = getD-set-same list i (getD list i 0 + 1) 0 (omega arith) ∙ ap (λ (n : ℕ). n + 1) (g i l)
-            own false = g i l ∙ sym (add-zero (howMany (leavesWork w i) (trace (history w) e)))
-
--- At the horizon. What ended before the last stretch ended before N, and the last one does not.
-howMany-same : (p q : Segment → Bool) (h : History) (N t : ℕ) → ((s : Segment) → endOf s .tick ≤ N → p s ≡ q s) → t ≤ N
-    → howMany p (begun h N t) ≡ howMany q (begun h N t)
+pub interruptions-start : (w : Work) → Interruptions w 0 (replicate mostServers 0)
 unfolding begun howMany sumOver
-howMany-same p q h N zero alike le = refl
-howMany-same p q h N (suc t) alike le =
-    sumOver-append _ (begun h N t) (cond (begins h t) (segmentsOf (h t) t (lasting h N t)) [])
-    ∙ ap₂ _+_ (howMany-same p q h N t alike (omega arith)) (here (begins h t) (h t))
-    ∙ sym (sumOver-append _ (begun h N t) (cond (begins h t) (segmentsOf (h t) t (lasting h N t)) []))
+interruptions-start w =
+    record { places = length-replicate {A = ℕ} mostServers 0; each = λ j b. getD-replicate mostServers j 0 0 b }
+
+-- there are no more of them than ticks
+pub interruptions-few : {w : Work} {e : ℕ} {list : List ℕ} → Interruptions w e list → (j : ℕ) → getD list j 0 ≤ e
+interruptions-few {w} {e} {list} x j = go (decLt j mostServers)
   where
-    here : (b : Bool) (x : Choice) → howMany p (cond b (segmentsOf x t (lasting h N t)) []) ≡ howMany q
-        (cond b (segmentsOf x t (lasting h N t)) [])
-    here false x = refl
-    here true nobody = refl
-    here true (given i d) = ap (λ (z : Bool). cond z 1 0 + 0) (alike _ (lasting-ends h N t (omega arith)))
+    go : Dec (j < mostServers) → getD list j 0 ≤ e
+    go (yes l) = omega (arith, x .each j l, howMany-le (isInterrupted w j) (trace (history w) e), begun-few (history w) e e)
+    go (no l) = omega (arith, List·getD-eq-default list 0 {n = j} (omega (arith, x .places)))
 
-module _ {w : Work} {e : ℕ} (i : ℕ) (d : Moment) (s : InStretch w e (w .horizon .tick) (chosen i d)) where
-  -- the segments that end before N and leave work
-  abbrev before : ℕ → Segment → Bool
-  before j g = ltb (endOf g .tick) (w .horizon .tick) && leavesWork w j g
+-- The stretch c ends at t.
+module _ {w : Work} {t : ℕ} (c : Current) (s : InStretch w (c .start .tick) t (chosenIn c)) where
+  abbrev before : ℕ → ℕ
+  before j = howMany (isInterrupted w j) (trace (history w) (c .start .tick))
 
-  -- those that ended before the last stretch are all of them
-  pub interrupted-whole : (j : ℕ) → interruptedOf w j ≡ howMany (leavesWork w j) (trace (history w) e)
-  unfolding begun interruptedOf howMany sumOver
-  interrupted-whole j =
-      ap (howMany (before j)) (stretch-trace s)
-      ∙ sumOver-append _ (trace (history w) e) (segmentsOf (chosen i d) e (w .horizon .tick - e))
-      ∙ ap₂ _+_ ended (last (chosen i d))
-      ∙ add-zero (howMany (leavesWork w j) (trace (history w) e))
+  abbrev after : ℕ → ℕ
+  after j = howMany (isInterrupted w j) (trace (history w) t)
+
+  -- one segment more, of its own server alone
+  ended : {i : ℕ} {d : Moment} → chosenIn c ≡ given i d → (j : ℕ) → after j ≡ before j + cond (eqb i j && interruptedAt w j t) 1 0
+  unfolding howMany sumOver
+  ended {i} {d} own j =
+      ap (howMany (isInterrupted w j)) (stretch-trace (subst (InStretch w (c .start .tick) t) own s))
+      ∙ sumOver-append _ (trace (history w) (c .start .tick)) (segmentsOf (given i d) (c .start .tick) (t - c .start .tick))
+      ∙ ap (λ (n : ℕ). before j + n)
+      (add-zero (cond (eqb i j && interruptedAt w j (c .start .tick + (t - c .start .tick))) 1 0)
+      ∙ ap (λ (u : ℕ). cond (eqb i j && interruptedAt w j u) 1 0) (add-sub-of-le (s .from)))
+
+  -- or none, where nobody ran
+  none-ended : chosenIn c ≡ nobody → (j : ℕ) → after j ≡ before j
+  none-ended own j =
+      ap (howMany (isInterrupted w j))
+      (stretch-trace (subst (InStretch w (c .start .tick) t) own s) ∙ append-nil (trace (history w) (c .start .tick)))
+
+  -- it does not count
+  uncounted : (c .server < mostServers → interruptedAt w (c .server) t ≡ false) → (j : ℕ) → after j ≡ before j
+  uncounted not-so j = go (decLt (c .server) mostServers)
     where
-      last : (x : Choice) → howMany (before j) (segmentsOf x e (w .horizon .tick - e)) ≡ 0
-      last nobody = refl
-      last (given k f) = rw (le-ltb (e + (w .horizon .tick - e)) (w .horizon .tick) (omega (arith, s .from)))
-
-      ended : howMany (before j) (trace (history w) e) ≡ howMany (leavesWork w j) (trace (history w) e)
-      ended = go (decLt 0 (w .horizon .tick))
+      go : Dec (c .server < mostServers) → after j ≡ before j
+      go (no l) = none-ended (chosen-nobody (c .server) (c .deadline) (omega arith)) j
+      go (yes l) = ended (chosen-server (c .server) (c .deadline) l) j ∙ none (ℕ-discrete (c .server) j)
         where
-          go : Dec (0 < w .horizon .tick) → howMany (before j) (trace (history w) e) ≡ howMany (leavesWork w j)
-              (trace (history w) e)
-          go (yes l) =
-              howMany-same (before j) (leavesWork w j) (history w) e e
-              (λ g b. rw (lt-ltb (endOf g .tick) (w .horizon .tick) (omega (arith, s .late l))))
-              (omega arith)
-          go (no l) =
-              subst⁻¹ (λ (n : ℕ). howMany (before j) (trace (history w) n) ≡ howMany (leavesWork w j) (trace (history w) n))
-              start
-              refl
-            where
-              start : e ≡ 0
-              start = omega (arith, s .from)
+          none : Dec (c .server ≡ j) → before j + cond (eqb (c .server) j && interruptedAt w j t) 1 0 ≡ before j
+          none (yes q) =
+              subst (λ (n : ℕ). before n + cond (eqb (c .server) n && interruptedAt w n t) 1 0 ≡ before n) q
+              (rw (not-so l, and-false (eqb (c .server) (c .server))) (add-zero (before (c .server))))
+          none (no q) = rw (ne-eqb (c .server) j q) (add-zero (before j))
+
+  -- or it does
+  counted : c .server < mostServers → interruptedAt w (c .server) t ≡ true → (j : ℕ) → after j ≡ before j + cond (eqb (c .server) j) 1 0
+  counted l so j = ended (chosen-server (c .server) (c .deadline) l) j ∙ own (ℕ-discrete (c .server) j)
+    where
+      own : Dec (c .server ≡ j)
+          → before j + cond (eqb (c .server) j && interruptedAt w j t) 1 0 ≡ before j + cond (eqb (c .server) j) 1 0
+      own (yes q) =
+          subst (λ (n : ℕ). before n + cond (eqb (c .server) n && interruptedAt w n t) 1 0 ≡ before n + cond (eqb (c .server) n) 1 0) q
+          (rw (eq-eqb (c .server) (c .server) refl, so) refl)
+      own (no q) = rw (ne-eqb (c .server) j q) refl
+
+  module _ {list : List ℕ} (x : Interruptions w (c .start .tick) list) where
+    interruptions-same : (c .server < mostServers → interruptedAt w (c .server) t ≡ false) → Interruptions w t list
+    interruptions-same not-so = record { places = x .places; each = λ j l. x .each j l ∙ sym (uncounted not-so j) }
+
+    -- nobody has the next tick
+    pub interruptions-idle : history w t ≡ nobody → Interruptions w t list
+    interruptions-idle next = interruptions-same (λ l. idle-interrupts-none w (c .server) t next)
+
+    interruptions-one : c .server < mostServers → interruptedAt w (c .server) t ≡ true
+        → Interruptions w t (set list (c .server) (getD list (c .server) 0 + 1))
+    interruptions-one l so = record { places = simp length-set (x .places); each = λ j b. each j b (ℕ-discrete (c .server) j) }
+      where
+        each : (j : ℕ) → j < mostServers → Dec (c .server ≡ j) → getD (set list (c .server) (getD list (c .server) 0 + 1)) j 0 ≡ after j
+        each j b (yes q) =
+            subst (λ (n : ℕ). getD (set list (c .server) (getD list (c .server) 0 + 1)) n 0 ≡ after n) q
+            (getD-set-same list (c .server) (getD list (c .server) 0 + 1) 0 (omega (arith, x .places))
+            ∙ ap (λ (n : ℕ). n + 1) (x .each (c .server) l)
+            ∙ sym (counted l so (c .server) ∙ rw (eq-eqb (c .server) (c .server) refl) refl))
+        each j b (no q) =
+            getD-set-other list (c .server) j (getD list (c .server) 0 + 1) 0 (λ e. q (sym e))
+            ∙ x .each j b
+            ∙ sym (counted l so j ∙ rw (ne-eqb (c .server) j q) (add-zero (before j)))
+
+    -- server i has it
+    pub interruptions-by : {i : ℕ} {d : Moment} → i < mostServers → history w t ≡ given i d → t < w .horizon .tick
+        → (c .server < mostServers → c .waits .ticks ≡ waitingAt w (c .server) t) → Interruptions w t (interruptionsAfter c i list)
+    interruptions-by {i} its next in-time waiting = go (decLt (c .server) mostServers) (interruptedBy (c .server) (c .waits .ticks) i) refl
+      where
+        told : c .server < mostServers → interruptedAt w (c .server) t ≡ interruptedBy (c .server) (c .waits .ticks) i
+        told l = by-numbers w next l its in-time ∙ ap (λ (n : ℕ). interruptedBy (c .server) n i) (sym (waiting l))
+
+        go : Dec (c .server < mostServers) → (b : Bool) → interruptedBy (c .server) (c .waits .ticks) i ≡ b
+            → Interruptions w t (interruptionsAfter c i list)
+        go (no l) b e =
+            subst⁻¹ (Interruptions w t) (none-more c i list (of-nobody (c .server) (c .waits .ticks) i (omega arith)))
+            (interruptions-same (λ m. let no : ⊥ = omega arith in absurd no))
+        go (yes l) true e = subst⁻¹ (Interruptions w t) (one-more c i list e) (interruptions-one l (told l ∙ e))
+        go (yes l) false e = subst⁻¹ (Interruptions w t) (none-more c i list e) (interruptions-same (λ m. told l ∙ e))
+
+-- At the horizon the last stretch ends, and that does not count.
+pub interrupted-whole : {w : Work} (c : Current) → InStretch w (c .start .tick) (w .horizon .tick) (chosenIn c) → (j : ℕ)
+    → interruptedOf w j ≡ howMany (isInterrupted w j) (trace (history w) (c .start .tick))
+unfolding interruptedOf
+interrupted-whole {w} c s j = uncounted c s (λ l. ends-at-horizon w (c .server) (w .horizon .tick) (omega arith)) j

@@ -1,8 +1,6 @@
 -- The segments of a run at moment t: those that ended, and the stretch that it is in.
 use Prim.Native.Nat.{ℕ, suc, _+_, _≤_, _<_}
-use borrow.Author.Tests.{eqb-true, eq-eqb}
-use lib.Dec.{eqb}
-use lib.ListN.{length, getD, replicate, length-replicate, getD-replicate, List·getD-eq-default}
+use borrow.Author.Tests.{eq-eqb}
 use mathlib.Core.Bool.{Bool, true, false}
 use mathlib.Core.List.{List}
 use mathlib.Core.Path.{_≡_, refl, sym, _∙_, ap, ap₂, subst, subst⁻¹}
@@ -11,30 +9,22 @@ use native.Mathlib.Omega.{arith}
 use Rattle.clock.specs.Clock.{moment, ticks}
 use Rattle.clock.specs.declared.Length.{Length}
 use Rattle.clock.specs.declared.Moment.{Moment}
-use Rattle.counting.proofs.TestLaws.{and-left, and-right, and-both, not-both}
+use Rattle.counting.proofs.TestLaws.{and-both, not-both}
 use Rattle.history.specs.Choice.{nobody, given}
 use Rattle.moments.specs.Moments.{history, waitingAt}
 use Rattle.sizes.specs.Sizes.{mostServers}
-use Rattle.summary.proofs.BoundLaws.{howMany-le}
-use Rattle.summary.specs.Summary.{howMany, leavesWork}
-use Rattle.trace.proofs.SegmentLaws.{begun-few}
-use Rattle.trace.specs.Ticks.{sumOver}
-use Rattle.trace.specs.Trace.{begun, trace}
 use Rattle.workfile.specs.Work.{Work}
 use Rattle.books.specs.declared.Current.{Current}
 use Rattle.books.proofs.Book.{Run, lentIn, SegmentBook, segmentBook, withWaits}
-use Rattle.books.proofs.stretches.Interruptions.{Interrupted, interrupted-end, interrupted-length}
 use Rattle.books.proofs.stretches.Segments.{Segments, segments-lent, segments-end}
 use Rattle.books.proofs.stretches.Stretches.{chosen, chosenIn, chosen-server, chosen-nobody, InStretch, stretch-start, stretch-on, stretch-new}
-use Rattle.books.proofs.stretches.Turns.{stays, turned, turned-stays, turned-ends, after-most, Bounded}
+use Rattle.books.proofs.stretches.Turns.{stays, stays-same, turned, turned-stays, turned-ends, after-most, Bounded}
 
 pub record Segmented (r : Run) (b : SegmentBook) (t : ℕ) : Type 0 where
   pub stretch : InStretch (r .work) (b .current .start .tick) t (chosenIn (b .current))
   pub segments : Segments r (b .list) (b .current .count) (b .current .start .tick)
   -- in k ticks at most k segments end
   pub few : r .lentAt + b .current .count ≤ t
-  pub cut : Interrupted (r .work) (b .interrupted) (b .current .start .tick)
-  pub places : length (b .interrupted) ≡ mostServers
   pub waiting : b .current .server < mostServers → b .current .waits .ticks ≡ waitingAt (r .work) (b .current .server) t
   -- nobody is always told alike
   pub alike : mostServers ≤ b .current .server → (b .current .server ≡ mostServers) × (b .current .deadline .tick ≡ 0)
@@ -44,26 +34,15 @@ abbrev pub atRest : Current
 atRest = record { start = moment 0; server = mostServers; deadline = moment 0; waits = ticks 0; count = 0 }
 
 pub segmented-start : (w : Work) (list finishes : List ℕ)
-    → Segmented (lentIn w 0 atRest list finishes) (segmentBook list (replicate mostServers 0) atRest) 0
-unfolding begun howMany sumOver
+    → Segmented (lentIn w 0 atRest list finishes) (segmentBook list atRest) 0
 segmented-start w list finishes =
     record {
       stretch = subst⁻¹ (InStretch w 0 0) (chosen-nobody mostServers (moment 0) (omega arith)) (stretch-start w);
       segments = segments-lent w 0 atRest list finishes;
       few = omega arith;
-      cut = λ j b. getD-replicate mostServers j 0 0 b;
-      places = length-replicate {A = ℕ} mostServers 0;
       waiting = λ b. let no : ⊥ = omega arith in absurd no;
       alike = λ b. (refl, refl);
     }
-
--- a tick that goes on with a stretch has its server and its deadline
-stays-same : (c : Current) (i : ℕ) (d : Moment) → stays c i d ≡ true → (c .server ≡ i) × (c .deadline ≡ d)
-unfolding stays
-stays-same c i d e = (
-  eqb-true (c .server) i (and-left (eqb (c .server) i) (eqb (c .deadline .tick) (d .tick)) e),
-  ap moment (eqb-true (c .deadline .tick) (d .tick) (and-right (eqb (c .server) i) (eqb (c .deadline .tick) (d .tick)) e)),
-)
 
 module _ {r : Run} {b : SegmentBook} {t : ℕ} (s : Segmented r b t) where
   abbrev w : Work
@@ -72,28 +51,8 @@ module _ {r : Run} {b : SegmentBook} {t : ℕ} (s : Segmented r b t) where
   abbrev c : Current
   c = b .current
 
-  segmented-cut : (j : ℕ) → getD (b .interrupted) j 0 ≤ t
-  segmented-cut j = go (decLt j mostServers)
-    where
-      go : Dec (j < mostServers) → getD (b .interrupted) j 0 ≤ t
-      go (yes l) =
-          omega (
-            arith,
-            s .cut j l,
-            howMany-le (leavesWork w j) (trace (history w) (c .start .tick)),
-            begun-few (history w) (c .start .tick) (c .start .tick),
-            s .stretch .from,
-          )
-      go (no l) = omega (arith, List·getD-eq-default (b .interrupted) 0 {n = j} (omega (arith, s .places)))
-
   pub segmented-bounded : Bounded t t b
-  segmented-bounded =
-      record {
-        from = s .stretch .from;
-        counted = omega (arith, s .few);
-        cut = segmented-cut;
-        places = s .places;
-      }
+  segmented-bounded = record { from = s .stretch .from; counted = omega (arith, s .few) }
 
   -- the next k + 1 ticks are all given to server i under deadline d, or to nobody
   module _ (k i : ℕ) (waits : Length) (d : Moment) (nobody-is : mostServers ≤ i → (i ≡ mostServers) × (d .tick ≡ 0))
@@ -136,8 +95,6 @@ module _ {r : Run} {b : SegmentBook} {t : ℕ} (s : Segmented r b t) where
               stretch = stretch-on (s .stretch) k (λ q l. all q l ∙ ap₂ chosen (sym a) (sym b));
               segments = s .segments;
               few = omega (arith, s .few);
-              cut = s .cut;
-              places = s .places;
               waiting = λ l. waiting (subst (λ (n : ℕ). n < mostServers) a l) ∙ ap (λ (n : ℕ). waitingAt w n (t + suc k)) (sym a);
               alike = s .alike;
             }
@@ -152,8 +109,6 @@ module _ {r : Run} {b : SegmentBook} {t : ℕ} (s : Segmented r b t) where
               stretch = stretch-new (s .stretch) k (chosen i d) (differ e) all;
               segments = segments-end c (s .stretch) (s .segments);
               few = omega (arith, after-most c, s .few);
-              cut = interrupted-end (b .interrupted) c (s .places) (s .stretch) (s .waiting) (s .cut);
-              places = interrupted-length c (b .interrupted) ∙ s .places;
               waiting = waiting;
               alike = nobody-is;
             }

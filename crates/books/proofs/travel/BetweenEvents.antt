@@ -21,6 +21,7 @@ use Rattle.workfile.specs.Work.{Work}
 use Rattle.books.proofs.Accepted.{nextStop, stop-arrival, stop-until}
 use Rattle.books.proofs.Book.{Run, Here, Book}
 use Rattle.books.proofs.jobs.FinishList.{finishes-length}
+use Rattle.books.proofs.stretches.Interruptions.{interruptions-few}
 use Rattle.books.proofs.stretches.Segmented.{segmented-bounded}
 use Rattle.books.proofs.stretches.Turns.{Bounded}
 use Rattle.books.proofs.travel.Stands.{NoneBefore, stands-within, stands-clock}
@@ -57,13 +58,7 @@ module _ {r : Run} {h : Here} {b : Book} (fit : Fit (r .work) (length (r .finish
   -- the current stretch and the counts
   pub bounded : Bounded clockEnd (h .t) (b .turns .segments)
   bounded =
-      let x = segmented-bounded (v .kept .segmented) in
-      record {
-        from = x .from;
-        counted = omega (arith, x .counted, before-end);
-        cut = λ j. omega (arith, x .cut j, before-end);
-        places = x .places;
-      }
+      let x = segmented-bounded (v .kept .segmented) in record { from = x .from; counted = omega (arith, x .counted, before-end) }
 
   -- in k ticks at most k segments end
   pub ended-few : r .lentAt + b .turns .segments .current .count ≤ h .t
@@ -71,6 +66,9 @@ module _ {r : Run} {h : Here} {b : Book} (fit : Fit (r .work) (length (r .finish
 
   pub postponed-few : (i : ℕ) → i < mostServers → getD (b .turns .postponed) i 0 ≤ clockEnd
   postponed-few i l = omega (arith, v .kept .counts .each i l, postponed-le (r .work) i (h .t), before-end)
+
+  pub interrupted-few : (i : ℕ) → getD (b .turns .interrupted) i 0 ≤ clockEnd
+  interrupted-few i = omega (arith, interruptions-few (v .kept .interruptions) i, v .kept .segmented .stretch .from, before-end)
 
   -- the finish list
   pub finishes-long : length (b .jobs .finishes) ≡ length (r .finishes)

@@ -26,9 +26,10 @@ use Rattle.books.proofs.Book.{Run, here, JobBook, jobBook, Book, Segmen
 use Rattle.books.proofs.jobs.FinishList.{finishes-same, finishes-one}
 use Rattle.books.proofs.jobs.JobBooks.{Jobs, jobs-set, jobs-left}
 use Rattle.books.proofs.jobs.Jobs.{Job, job-waits, job-goes-on, job-ends, job-waiting, NextJob, idle-ends-none, run-ends-no-other, job-was-open, job-still-open, job-finishes}
+use Rattle.books.proofs.stretches.Interruptions.{Interruptions, interruptionsAfter, none-of-itself, interruptions-by, interruptions-idle}
 use Rattle.books.proofs.stretches.Segmented.{Segmented, segmented-then}
 use Rattle.books.proofs.stretches.Stretches.{chosen-server, chosen-nobody}
-use Rattle.books.proofs.stretches.Turns.{turned, waits-kept}
+use Rattle.books.proofs.stretches.Turns.{turned, turned-start, stays-same, waits-kept}
 use Rattle.books.proofs.travel.Events.{event-at, event-turns, event-history, event-served, event-unserved, event-own, event-stands, idle-turns, idle-history, idle-unserved, idle-stands}
 use Rattle.books.proofs.travel.Kept.{Counts, Kept}
 use Rattle.books.proofs.travel.Stands.{NoneBefore, Stands, stands-within}
@@ -75,6 +76,14 @@ module _ {r : Run} {places t j : ℕ} {d : Dispatcher} {b : Book} (fit : Fit (r 
         (λ q b. idle-history fit s k end later none q b ∙ sym (chosen-nobody mostServers (moment 0) (omega arith)))
         (λ b. let no : ⊥ = omega arith in absurd no))
 
+    idle-interruptions : Interruptions w (waited .current .start .tick) (b .turns .interrupted)
+    idle-interruptions =
+        let y = b .turns .segments in
+        turned-start y t mostServers (moment 0) (λ e. Interruptions w e (b .turns .interrupted)) (λ on. x .interruptions)
+        (λ ends.
+        interruptions-idle (y .current) (x .segmented .stretch) (x .interruptions)
+        (ap (history w) (sym (add-zero t)) ∙ idle-history fit s k end later none 0 (omega arith)))
+
     pub kept-idle : Kept r (here (t + suc k) j (laterBy d (suc k))) (withSegments b waited)
     kept-idle =
         record {
@@ -82,6 +91,7 @@ module _ {r : Run} {places t j : ℕ} {d : Dispatcher} {b : Book} (fit : Fit (r 
           jobs = idle-jobs;
           counts = idle-counts;
           segmented = idle-segmented;
+          interruptions = idle-interruptions;
         }
 
   -- Server i runs, on the job that it serves.
@@ -211,13 +221,33 @@ module _ {r : Run} {places t j : ℕ} {d : Dispatcher} {b : Book} (fit : Fit (r 
         ap (λ (y : Server). y .waiting .ticks) (sym (event-own fit s k end later i p budget its-work))
         ∙ ap (λ (y : Dispatcher). serverAt y i .waiting .ticks) (event-at fit s k end later i p budget its-work))
 
+    -- the interruptions
+    abbrev interruptedNow : List ℕ
+    interruptedNow = interruptionsAfter (b .turns .segments .current) i (b .turns .interrupted)
+
+    ran-interruptions : Interruptions w (ranSegments .current .start .tick) interruptedNow
+    ran-interruptions =
+        let y = b .turns .segments in
+        let deadline = serverAt d i .deadline in
+        turned-start y t i deadline (λ e. Interruptions w e interruptedNow)
+        (λ on.
+        subst⁻¹ (Interruptions w (y .current .start .tick))
+        (none-of-itself (y .current) i (b .turns .interrupted) (stays-same (y .current) i deadline on .0))
+        (x .interruptions))
+        (λ ends.
+        interruptions-by (y .current) (x .segmented .stretch) (x .interruptions) {d = deadline} among
+        (ap (history w) (sym (add-zero t)) ∙ history-is 0 (omega arith))
+        (omega arith)
+        (x .segmented .waiting))
+
     -- all of it, with whatever book of jobs holds then
     pub kept-ran : {jobs : JobBook} → Jobs r (t + suc k) j jobs
-        → Kept r (here (t + suc k) j (ranFor d i (suc k))) (book (turnBook (b .turns .tree) counted ranSegments) jobs)
+        → Kept r (here (t + suc k) j (ranFor d i (suc k))) (book (turnBook (b .turns .tree) counted interruptedNow ranSegments) jobs)
     kept-ran jobs =
         record {
           stands = event-stands fit s k end later i p budget its-work;
           jobs = jobs;
           counts = ran-counts;
           segmented = ran-segmented;
+          interruptions = ran-interruptions;
         }

@@ -9,6 +9,7 @@ use Rattle.sizes.specs.Sizes.{mostServers}
 use Rattle.workfile.specs.Work.{Work}
 use Rattle.books.proofs.Book.{Run, Here, Book, withTree}
 use Rattle.books.proofs.jobs.JobBooks.{Jobs}
+use Rattle.books.proofs.stretches.Interruptions.{Interruptions}
 use Rattle.books.proofs.stretches.Segmented.{Segmented}
 use Rattle.books.proofs.travel.Stands.{Stands}
 use Rattle.books.proofs.tree.Winners.{Tree}
@@ -30,6 +31,7 @@ pub record Kept (r : Run) (h : Here) (b : Book) : Type 0 where
   pub jobs : Jobs r (h .t) (h .taken) (b .jobs)
   pub counts : Counts (r .work) (h .t) (b .turns .postponed)
   pub segmented : Segmented r (b .turns .segments) (h .t)
+  pub interruptions : Interruptions (r .work) (b .turns .segments .current .start .tick) (b .turns .interrupted)
 
 pub kept-tree : {r : Run} {h : Here} {b : Book} (tree : Tree) → Kept r h b → Kept r h (withTree b tree)
-kept-tree tree x = record { stands = x .stands; jobs = x .jobs; counts = x .counts; segmented = x .segmented }
+kept-tree tree x = record { stands = x .stands; jobs = x .jobs; counts = x .counts; segmented = x .segmented; interruptions = x .interruptions }

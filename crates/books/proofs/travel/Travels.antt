@@ -21,6 +21,7 @@ use Rattle.books.proofs.jobs.FinishList.{finishes-again}
 use Rattle.books.proofs.jobs.JobBooks.{Jobs, jobs-start, jobs-later}
 use Rattle.books.proofs.jobs.Jobs.{NextJob}
 use Rattle.books.proofs.jobs.Lined.{Follow}
+use Rattle.books.proofs.stretches.Interruptions.{interruptions-start}
 use Rattle.books.proofs.stretches.Segmented.{atRest, segmented-start}
 use Rattle.books.proofs.stretches.Segments.{segments-lent}
 use Rattle.books.proofs.travel.ArrivalTaken.{Taking}
@@ -54,7 +55,7 @@ pub record MayTravel (file behind : List ℕ) (until : ℕ) (r : Run) (h : Here)
 -- the book at the start
 abbrev pub startBook : ℕ → List ℕ → List ℕ → List ℕ → Book
 startBook leaves first list finishes =
-    book (turnBook (treeOf leaves (replicate 128 lastTick)) (replicate mostServers 0) (segmentBook list (replicate mostServers 0) atRest))
+    book (turnBook (treeOf leaves (replicate 128 lastTick)) (replicate mostServers 0) (replicate mostServers 0) (segmentBook list atRest))
     (jobBook first (replicate mostServers 0) finishes)
 
 -- at the start every server is idle
@@ -82,6 +83,7 @@ travels-start {w} list finishes fit leaves opened long firsts =
             jobs = jobs-start fit opened long firsts;
             counts = counts-start w;
             segmented = segmented-start w list finishes;
+            interruptions = interruptions-start w;
           };
       horizon = omega arith;
       keyed = start-keyed w leaves;
@@ -111,6 +113,7 @@ travels-taking v g =
             jobs = rw (g .same-moment) (jobs-later (g .later) (v .kept .jobs));
             counts = rw (g .same-moment) (v .kept .counts);
             segmented = rw (g .same-moment) (v .kept .segmented);
+            interruptions = v .kept .interruptions;
           };
       horizon = omega (arith, g .same-moment, v .horizon);
       keyed = g .keyed;
@@ -121,7 +124,7 @@ pub travels-jobs : {r : Run} {h : Here} {b : Book} {jobs : JobBook} → Travels 
     → Travels r h (book (b .turns) jobs)
 travels-jobs v jobs =
     record {
-      kept = record { stands = v .kept .stands; jobs = jobs; counts = v .kept .counts; segmented = v .kept .segmented };
+      kept = record { stands = v .kept .stands; jobs = jobs; counts = v .kept .counts; segmented = v .kept .segmented; interruptions = v .kept .interruptions };
       horizon = v .horizon;
       keyed = v .keyed;
     }
@@ -132,7 +135,7 @@ countedAnew c = record { start = c .start; server = c .server; deadline = c .dea
 
 pub travels-again : {r : Run} {h : Here} {b : Book} (another : List ℕ) → Travels r h b
     → Travels (lentIn (r .work) (h .t) (b .turns .segments .current) another (b .jobs .finishes)) h
-    (withSegments b (segmentBook another (b .turns .segments .interrupted) (countedAnew (b .turns .segments .current))))
+    (withSegments b (segmentBook another (countedAnew (b .turns .segments .current))))
 travels-again {r} {h} {b} another v =
     let w = r .work in
     let s = v .kept .segmented in
@@ -157,11 +160,10 @@ travels-again {r} {h} {b} another v =
                   stretch = s .stretch;
                   segments = segments-lent w (h .t) (b .turns .segments .current) another (b .jobs .finishes);
                   few = omega arith;
-                  cut = s .cut;
-                  places = s .places;
                   waiting = s .waiting;
                   alike = s .alike;
                 };
+            interruptions = v .kept .interruptions;
           };
       horizon = v .horizon;
       keyed = v .keyed;

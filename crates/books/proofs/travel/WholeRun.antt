@@ -55,10 +55,10 @@ module _ {r : Run} {h : Here} {b : Book} (v : Travels r h b) (end : r .work .hor
   pub postponed-whole : (i : ℕ) → i < mostServers → getD (b .turns .postponed) i 0 ≡ postponedBy w i (w .horizon .tick)
   postponed-whole i l = v .kept .counts .each i l ∙ ap (postponedBy w i) at-horizon
 
-  pub interrupted-all : (i : ℕ) → i < mostServers → getD (b .turns .segments .interrupted) i 0 ≡ interruptedOf w i
+  pub interrupted-all : (i : ℕ) → i < mostServers → getD (b .turns .interrupted) i 0 ≡ interruptedOf w i
   interrupted-all i l =
-      v .kept .segmented .cut i l
+      v .kept .interruptions .each i l
       ∙ sym
-      (interrupted-whole (c .server) (c .deadline)
+      (interrupted-whole c
       (subst (λ (n : ℕ). InStretch w (c .start .tick) n (chosenIn c)) at-horizon (v .kept .segmented .stretch))
       i)

@@ -1,7 +1,7 @@
 -- `run::budgets::pass_each` meets its promise: after k turns all stands as after k budgets.
 use Prim.Native.Nat.{ℕ, suc, _+_, _-_, _*_, _≤_, _<_}
 use borrow.Author.Needs.{needs}
-use lib.ListN.{length, getD}
+use lib.ListN.{length}
 use mathlib.Core.Path.{_≡_, refl, _∙_, ap, ap₂}
 use native.Mathlib.Nat.{mul-le-mul-right, le-antisymm}
 use native.Mathlib.Numerals.{add-one}
@@ -11,7 +11,7 @@ use Rattle.books.proofs.budgets.BudgetLaws.{budgets-few, deadline-more, waiting
 use Rattle.books.proofs.budgets.Budgets.{budgetsOn, turnedOn, BudgetsFrom}
 use Rattle.books.proofs.stretches.Turns.{turned, Bounded, MayEnd}
 use Rattle.clock.proofs.ClockLaws.{up-to-last-whole}
-use Rattle.clock.specs.Clock.{lastTick, moment, ticks, later, upToLast}
+use Rattle.clock.specs.Clock.{moment, ticks, later, upToLast}
 use Rattle.clock.specs.declared.Length.{Length}
 use Rattle.clock.specs.declared.Moment.{Moment}
 use Rattle.server.specs.declared.Server.{Server}
@@ -67,9 +67,6 @@ module _ {b : SegmentBook} {t i : ℕ} {s : Server} {n : ℕ} where
           counted = omega (arith, ap (λ (y : SegmentBook). y .current .count) (p .segments-is), bounded .counted, budgets-few may);
         }
 
-    cut-few : (j : ℕ) → getD (x .interrupted) j 0 < lastTick
-    cut-few j = omega (arith, ap (λ (y : SegmentBook). getD (y .interrupted) j 0) (p .segments-is), bounded .cut j, budgets-few may)
-
     passed-more : {y : SegmentBook} {at′ deadline′ : Moment} {waiting′ : Length} → y ≡ turned x (at .tick) i deadline
         → waiting′ ≡ ticks (waiting .ticks - s .budget .ticks) → at′ ≡ upToLast (later at (s .budget))
         → deadline′ ≡ upToLast (later deadline (s .period)) → length (y .list) ≡ length (x .list)
@@ -104,24 +101,22 @@ module _ {b : SegmentBook} {t i : ℕ} {s : Server} {n : ℕ} where
             waits-more = waiting-more s k
 
 abbrev Inv-loop : tie.InvT-loop
-Inv-loop list₀ interrupted₀ i s n current₀ at₀ deadline₀ waiting₀ k₀ list interrupted current at deadline waiting k =
-    Passed (segmentBook list₀ interrupted₀ current₀) (at₀ .tick) i s n (segmentBook list interrupted current) at deadline waiting k
+Inv-loop list₀ i s n current₀ at₀ deadline₀ waiting₀ k₀ list current at deadline waiting k =
+    Passed (segmentBook list₀ current₀) (at₀ .tick) i s n (segmentBook list current) at deadline waiting k
 
 abbrev μ-loop : tie.MeasureT-loop
-μ-loop list₀ interrupted₀ i s n current₀ at₀ deadline₀ waiting₀ k₀ list interrupted current at deadline waiting k = n - k
+μ-loop list₀ i s n current₀ at₀ deadline₀ waiting₀ k₀ list current at deadline waiting k = n - k
 
 loop-holds : tie.Need-loop-holds Inv-loop μ-loop
 loop-holds c = passed-none
 
 turn-to-requires : tie.Need-turn-to-requires Inv-loop μ-loop
 turn-to-requires c κs =
-    let pre = c .before .before .before .before .before .before .before .pre in
-    let p = c .before .before .before .loop .inv in
-    let more = c .before .before .loop-test .taken in
-    (may-end (pre .0) (pre .1) p more, cut-few (pre .0) (pre .1) p more (c .before .before .before .loop .current .server))
+    let pre = c .before .before .before .before .before .before .pre in
+    may-end (pre .0) (pre .1) (c .before .before .loop .inv) (c .before .loop-test .taken)
 
 less-requires : tie.Need-less-requires Inv-loop μ-loop
-less-requires c κs = let pre = c .before .before .before .before .before .before .before .before .before .before .pre in enough (pre .0) (pre .1) (c .before .before .before .before .before .before .loop .inv) (c .before .before .before .before .before .loop-test .taken)
+less-requires c κs = let pre = c .before .before .before .before .before .before .before .before .before .pre in enough (pre .0) (pre .1) (c .before .before .before .before .before .loop .inv) (c .before .before .before .before .loop-test .taken)
 
 later-requires : tie.Need-later-requires Inv-loop μ-loop
 later-requires c κs = search needs
@@ -137,9 +132,9 @@ loop-less c = search needs
 
 loop-again : tie.Need-loop-again Inv-loop μ-loop
 loop-again c =
-    let pre = c .before .before .before .before .before .before .before .before .before .before .before .before .before .pre in
+    let pre = c .before .before .before .before .before .before .before .before .before .before .before .before .pre in
     rw add-one
-    (passed-more (pre .0) (pre .1) (c .before .before .before .before .before .before .before .before .before .loop .inv) (c .before .before .before .before .before .before .before .before .loop-test .taken) (c .before .before .before .before .before .turn-to .ensures) (c .before .before .less .ensures) (c .before .later .ensures)
+    (passed-more (pre .0) (pre .1) (c .before .before .before .before .before .before .before .before .loop .inv) (c .before .before .before .before .before .before .before .loop-test .taken) (c .before .before .before .before .before .turn-to .ensures) (c .before .before .less .ensures) (c .before .later .ensures)
     (c .later2 .ensures)
     (search needs))
 
@@ -151,7 +146,7 @@ returns c =
     let a = c .before .before .before .before .before .args in
     let p = c .before .loop .inv in
     let all : c .before .loop .k ≡ a .n = le-antisymm (p .within) (c .loop-test .left) in
-    p .segments-is ∙ ap (turnedOn (segmentBook (a .list .now) (a .interrupted .now) (a .c)) (a .t .tick) (a .i) (a .s)) all
+    p .segments-is ∙ ap (turnedOn (segmentBook (a .list .now) (a .c)) (a .t .tick) (a .i) (a .s)) all
 
 pub pass-each-spec : {M : Type 1} → statement M
 pass-each-spec =

@@ -35,7 +35,7 @@ abbrev Inv-loop : tie.InvT-loop
 Inv-loop file list₀ finishes₀ until leaves keys₀ postponed₀ interrupted₀ job₀ left₀ behind d₀ c₀ t₀ j₀ next₀ root₀ list finishes keys
     postponed interrupted job left d c t j next root =
     OnTheWay (lentIn (work file) (t₀ .tick) c₀ list₀ finishes₀) (here (t .tick) j d)
-    (book (turnBook (treeOf leaves keys) postponed (segmentBook list interrupted c)) (jobBook job left finishes))
+    (book (turnBook (treeOf leaves keys) postponed interrupted (segmentBook list c)) (jobBook job left finishes))
     (until .tick)
     (next .tick)
     root
@@ -131,7 +131,7 @@ abbrev at : tie.Else2 Inv-loop2 μ-loop2 Inv-loop μ-loop → Here
 at a = here (a .before .before .before .before .before .before .before .loop .t .tick) (a .before .before .before .loop2 .j) (a .before .before .before .loop2 .d)
 
 abbrev turns : tie.Else2 Inv-loop2 μ-loop2 Inv-loop μ-loop → TurnBook
-turns a = let l = a .before .before .before .before .before .before .before .loop in turnBook (treeOf (began a .before .before .before .before .before .before .before .before .args .leaves) (a .before .before .before .loop2 .keys)) (l .postponed) (segmentBook (l .list) (l .interrupted) (l .c))
+turns a = let l = a .before .before .before .before .before .before .before .loop in turnBook (treeOf (began a .before .before .before .before .before .before .before .before .args .leaves) (a .before .before .before .loop2 .keys)) (l .postponed) (l .interrupted) (segmentBook (l .list) (l .c))
 
 abbrev jobs : tie.Else2 Inv-loop2 μ-loop2 Inv-loop μ-loop → JobBook
 jobs a = let l = a .before .before .before .before .before .before .before .loop in jobBook (l .job) (l .left) (l .finishes)
@@ -147,18 +147,17 @@ ahead a = stop-ahead (fit (began a)) (a .before .before .before .loop2 .inv .nex
 
 idle-requires : tie.Need-idle-requires Inv-loop2 μ-loop2 Inv-loop μ-loop
 idle-requires c κs =
-    let a = c .before .before .before in
-    let by = bounded (fit (began a)) (going a) in
-    (bounded-end by (omega arith), omega (arith, by .cut (a .before .before .before .before .before .before .before .loop .c .server)))
+    let a = c .before .before in
+    bounded-end (bounded (fit (began a)) (going a)) (omega arith)
 
 loop-less : tie.Need-loop-less Inv-loop2 μ-loop2 Inv-loop μ-loop
-loop-less c = omega (arith, c .before .before .before .before .before .before .if2 .left, c .before .before .before .before .before .before .before .before .before .before .if1 .taken)
+loop-less c = omega (arith, c .before .before .before .before .before .if2 .left, c .before .before .before .before .before .before .before .before .before .if1 .taken)
 
 loop-again : tie.Need-loop-again Inv-loop2 μ-loop2 Inv-loop μ-loop
 loop-again c =
-    let a = c .before .before .before .before .before .before in
+    let a = c .before .before .before .before .before in
     let x = a .before .before .before .loop2 .inv in
-    idled-on (fit (began a)) (going a) (sym (x .root-is) ∙ c .before .before .before .before .before .if3 .taken) (ahead a) (c .before .before .idle .ensures) x
+    idled-on (fit (began a)) (going a) (sym (x .root-is) ∙ c .before .before .before .before .if3 .taken) (ahead a) (c .before .before .idle .ensures) x
 
 -- The server that is picked.
 pick : (c : tie.Else3 Inv-loop2 μ-loop2 Inv-loop μ-loop) → let d = at (c .before) .dispatcher in Earliest d (d .count) (c .before .before .before .before .loop2 .root % 64)
@@ -201,7 +200,7 @@ opening g = g .before .before .before .before .before .before .before
 
 abbrev turnsAfter : tie.After-go Inv-loop2 μ-loop2 Inv-loop μ-loop → TurnBook
 turnsAfter g =
-    turnBook (treeOf (began (settled (opening g)) .before .before .before .before .before .before .before .before .args .leaves) (g .go .last .1 .0)) (g .go .last .1 .1 .0) (segmentBook (g .go .last .0) (g .go .last .1 .1 .1 .0) (g .go .result .current))
+    turnBook (treeOf (began (settled (opening g)) .before .before .before .before .before .before .before .before .args .leaves) (g .go .last .1 .0)) (g .go .last .1 .1 .0) (g .go .last .1 .1 .1 .0) (segmentBook (g .go .last .0) (g .go .result .current))
 
 mul-server : tie.Need-mul-server Inv-loop2 μ-loop2 Inv-loop μ-loop
 mul-server c = omega (arith, its-place (opening (c .before .before .before .before .before)))

@@ -99,8 +99,8 @@ lent p = lentIn (its p) (from p .moment .tick) (from p .current) (p .before .bef
 abbrev began : tie.After-behind2 → Book
 began p =
     book
-    (turnBook (treeOf (leaves p) (replicate 128 lastTick)) (replicate mostServers 0)
-    (segmentBook (p .before .before .before .before .before .before .before .before .before .before .before .before .before .before .before .before .before .before .before .before .before .before .args .list .now) (replicate mostServers 0) (from p .current)))
+    (turnBook (treeOf (leaves p) (replicate 128 lastTick)) (replicate mostServers 0) (replicate mostServers 0)
+    (segmentBook (p .before .before .before .before .before .before .before .before .before .before .before .before .before .before .before .before .before .before .before .before .before .before .args .list .now) (from p .current)))
     (jobBook (first p) (replicate mostServers 0) (opened p))
 
 starts : (p : tie.After-behind2) → Travels (lent p) (standingAt (from p)) (began p)
@@ -110,7 +110,7 @@ starts p =
     subst⁻¹
     (λ (s : Standing).
     Travels (lentIn (its p) (s .moment .tick) (s .current) list (opened p)) (standingAt s)
-    (book (turnBook (treeOf (leaves p) (replicate 128 lastTick)) (replicate mostServers 0) (segmentBook list (replicate mostServers 0) (s .current)))
+    (book (turnBook (treeOf (leaves p) (replicate 128 lastTick)) (replicate mostServers 0) (replicate mostServers 0) (segmentBook list (s .current)))
     (jobBook (first p) (replicate mostServers 0) (opened p))))
     (p .before .before .before .before .before .before .from-start .ensures)
     (travels-start list (opened p) (fit p) (enough p) (open-again p) (lined .first-places) (lined .firsts))
@@ -134,7 +134,7 @@ abbrev left : tie.After-to-moment → Book
 left m =
     let l = m .to-moment .last .1 .1 .1 .1 .1 .1 in
     book
-    (turnBook (treeOf (leaves (m .before)) (l .0)) (l .1 .0) (segmentBook (m .to-moment .last .1 .0) (l .1 .1 .0) (m .to-moment .result .current)))
+    (turnBook (treeOf (leaves (m .before)) (l .0)) (l .1 .0) (l .1 .1 .0) (segmentBook (m .to-moment .last .1 .0) (m .to-moment .result .current)))
     (jobBook (l .1 .1 .1 .0) (l .1 .1 .1 .1 .0) (m .to-moment .last .1 .1 .0))
 
 came : (m : tie.After-to-moment) → Travels (lent (m .before)) (standingAt (m .to-moment .result)) (left m)
