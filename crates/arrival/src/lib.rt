@@ -1,10 +1,12 @@
 // An arrival, which brings work to one server at one moment, and whether what it names can be taken.
+#![tactic(auto)]
+
 ghost use Rattle.std.specs.Prelude.{◌≡◌};
 ghost use Rattle.arrival.specs.Arrival.{faulty_arrival};
 
 use clock::{Length, Moment};
 
-#[derive(Drop)]
+#[derive(Clone, Copy)]
 pub struct Arrival {
     pub moment: Moment,
     pub server: usize,

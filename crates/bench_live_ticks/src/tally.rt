@@ -5,7 +5,7 @@ ghost use Rattle.bench_live_ticks.specs.Working.Ticks.{UpTo, counted};
 
 use dispatcher::{Dispatcher, TickAnswer};
 
-#[derive(Drop)]
+#[derive(Clone, Copy)]
 pub struct Tally {
     // How many ticks went to a server, and how many of those postponed it.
     pub ran: u64,
@@ -14,7 +14,7 @@ pub struct Tally {
 }
 
 // Ticks and the dispatcher after them.
-#[derive(Drop)]
+#[derive(Clone, Copy)]
 pub struct Tallied {
     pub tally: Tally,
     pub dispatcher: Dispatcher,

@@ -1,5 +1,7 @@
 // A booking, Q ticks in every T, against the frame: whether it is faulty, and its share where it is not; and the booking sheet of a table,
 // by which it is admitted.
+#![tactic(auto)]
+
 ghost use Rattle.std.specs.Prelude.{◌≤◌, get_or, false, ◌≡◌};
 ghost use Rattle.clock.specs.Clock.{ticks};
 ghost use Rattle.refusal.specs.Refusals.{on_paper};
@@ -11,7 +13,7 @@ ghost use Rattle.booking.specs.Working.Foot.{foot_of};
 use clock::Length;
 use refusal::{Refusal, Verdict};
 
-#[derive(Drop)]
+#[derive(Clone, Copy)]
 pub struct Booking {
     // Q
     pub budget: Length,
@@ -20,7 +22,7 @@ pub struct Booking {
 }
 
 // A booking sheet: the frame, and the bookings of a table one below the other.
-#[derive(Drop)]
+#[derive(Clone, Copy)]
 pub struct Sheet {
     // H
     pub frame: Length,
@@ -30,7 +32,7 @@ pub struct Sheet {
 }
 
 // What stands at the foot of a sheet.
-#[derive(Drop)]
+#[derive(Clone, Copy)]
 enum Foot {
     // The first booking that is faulty.
     Faulty(usize),

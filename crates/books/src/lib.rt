@@ -1,12 +1,14 @@
 // How a run from event to event keeps its books, and the laws that join these to the rules' definitions. They stand in `proofs/`, and no
 // public promise cites them.
+#![tactic(auto)]
+
 use clock::{Length, Moment};
 use dispatcher::Dispatcher;
 use server::Server;
 
 // The stretch that a run is in: since when, of which server under which deadline, and how many segments ended before it. Where
 // nobody runs the server is that of no place.
-#[derive(Drop)]
+#[derive(Clone, Copy)]
 pub struct Current {
     pub start: Moment,
     pub server: usize,
@@ -17,7 +19,7 @@ pub struct Current {
 }
 
 // Where a run stands between two events: the moment, how many arrivals are taken, the dispatcher, and the stretch that it is in.
-#[derive(Drop)]
+#[derive(Clone, Copy)]
 pub struct Standing {
     pub moment: Moment,
     pub taken: usize,
@@ -26,7 +28,7 @@ pub struct Standing {
 }
 
 // A spell of the server that is picked, as it is planned.
-#[derive(Drop)]
+#[derive(Clone, Copy)]
 pub struct PlannedSpell {
     pub ticks: Length,
     // The server after these ticks.
@@ -41,7 +43,7 @@ pub struct PlannedSpell {
 }
 
 // What a spell leaves beside the books: the server, the stretch that the run is in then, how long it took, and what the root of the tree holds.
-#[derive(Drop)]
+#[derive(Clone, Copy)]
 pub struct Gone {
     pub server: Server,
     pub current: Current,
@@ -50,7 +52,7 @@ pub struct Gone {
 }
 
 // What a run leaves at the horizon beside its lists: how many segments there are, and two counts for each server.
-#[derive(Drop)]
+#[derive(Clone, Copy)]
 pub struct Travelled {
     pub segments: usize,
     pub postponed: [u64; sizes::MOST_SERVERS],

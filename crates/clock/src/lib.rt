@@ -1,16 +1,18 @@
 // Moments on the clock and lengths of work or time, kept apart: a moment and a length give a moment, two moments give a length,
 // and two moments are never added. Every function is proved for all numbers.
+#![tactic(auto)]
+
 ghost use Rattle.std.specs.Prelude.{◌≡◌};
 ghost use Rattle.clock.specs.Clock.{later, until, up_to_last};
 
 // A place on the clock, as a deadline.
-#[derive(Drop)]
+#[derive(Clone, Copy)]
 pub struct Moment {
     pub tick: u64,
 }
 
 // An amount of work or time, as a budget.
-#[derive(Drop)]
+#[derive(Clone, Copy)]
 pub struct Length {
     pub ticks: u64,
 }

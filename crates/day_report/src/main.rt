@@ -1,5 +1,7 @@
 // The day report as a program: a work file from standard input, and its report to standard output. A program's reading and writing are no
 // part of a promise; what stands between them is `report::day_report`.
+#![tactic(auto)]
+
 ghost use Rattle.std.specs.Prelude.{◌+◌, ◌≤◌, length, take, ◌≡◌};
 ghost use Rattle.io.specs.Counts.{IsPrefixLen};
 ghost use Rattle.report.specs.DayReport.{day_report, most_bytes};

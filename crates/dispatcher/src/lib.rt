@@ -1,6 +1,8 @@
 // The dispatcher: the servers of one node and its clock, and the two moves that change them, an arrival and a tick.
 // A move takes the dispatcher by value and hands it back. Its one premise, `Within`, is ranges of the dispatcher's numbers: every
 // opening hands out a dispatcher within them and every move keeps it there, so that a caller has nothing to check.
+#![tactic(auto)]
+
 mod picking;
 mod places;
 
@@ -14,7 +16,7 @@ use clock::{Length, Moment};
 use refusal::{Refusal, Verdict};
 use server::Server;
 
-#[derive(Drop)]
+#[derive(Clone, Copy)]
 pub struct Dispatcher {
     // H
     pub frame: Length,
@@ -24,13 +26,13 @@ pub struct Dispatcher {
     pub servers: [Server; sizes::MOST_SERVERS],
 }
 
-#[derive(Drop)]
+#[derive(Clone, Copy)]
 pub struct Arrived {
     pub answer: Verdict,
     pub dispatcher: Dispatcher,
 }
 
-#[derive(Drop)]
+#[derive(Clone, Copy)]
 pub enum TickAnswer {
     Idle,
     // The server that ran, the deadline that it ran under, and whether that tick postponed it.
@@ -42,7 +44,7 @@ pub enum TickAnswer {
     Refused(Refusal),
 }
 
-#[derive(Drop)]
+#[derive(Clone, Copy)]
 pub struct Ticked {
     pub answer: TickAnswer,
     pub dispatcher: Dispatcher,

@@ -1,4 +1,6 @@
 // The judgement of a work file by the refusals 1 to 9, in the order of the rules.
+#![tactic(auto)]
+
 ghost use Rattle.std.specs.Prelude.{◌≡◌};
 ghost use Rattle.refusal.specs.Refusals.{on_paper};
 ghost use Rattle.workfile.specs.Work.{work_under};

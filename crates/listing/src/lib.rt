@@ -1,5 +1,7 @@
 // The records of a work file by number: booking k and arrival k of any bytes under any header. At which byte a record starts, and how far the
 // records of a kind go, is told here alone.
+#![tactic(auto)]
+
 ghost use Rattle.std.specs.Prelude.{◌≡◌, ◌+◌, ◌*◌, ◌≤◌, min, ltb, length};
 ghost use Rattle.booking.specs.Sheet.{sheet_of};
 ghost use Rattle.sizes.specs.Sizes.{arrival_bytes, server_bytes};

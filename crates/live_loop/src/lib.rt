@@ -1,6 +1,8 @@
 // The live loop's moves: an arrival and a tick on a dispatcher that is lent, which each alters there; and that both forms of the moves
 // agree. The loop keeps one dispatcher and lends it to every move. Each is thin over the move of crate `dispatcher` that takes the
 // dispatcher by value and hands it back, and has the same one premise, which it keeps.
+#![tactic(auto)]
+
 ghost use Rattle.std.specs.Prelude.{◌≡◌};
 ghost use Rattle.dispatcher.specs.Moves.{leaving, arrival, tick, turn_of};
 ghost use Rattle.dispatcher.specs.Within.{Within};

@@ -1,4 +1,6 @@
 // The numbers of a work file, read where they lie: a lent slice of bytes and a place in it, and nothing copied.
+#![tactic(auto)]
+
 ghost use Rattle.std.specs.Prelude.{◌≡◌, ◌+◌, ◌*◌, ◌<◌, get_or, length};
 ghost use Rattle.numbers.specs.Word.{number_at};
 

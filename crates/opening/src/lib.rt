@@ -1,4 +1,6 @@
 // Opening a live table: a lent list of Q, T pairs and the frame H become a dispatcher, or are refused by number and place.
+#![tactic(auto)]
+
 ghost use Rattle.std.specs.Prelude.{false, ◌≡◌, ◌+◌, ◌*◌, ◌/◌, ◌≤◌, ◌<◌, length};
 ghost use Rattle.booking.specs.Sheet.{sheet_of};
 ghost use Rattle.dispatcher.specs.Start.{at_start};
@@ -12,7 +14,7 @@ use clock::{Length, Moment};
 use dispatcher::Dispatcher;
 use refusal::{Refusal, Verdict};
 
-#[derive(Drop)]
+#[derive(Clone, Copy)]
 pub struct Opened {
     pub answer: Verdict,
     pub dispatcher: Dispatcher,

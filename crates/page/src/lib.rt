@@ -1,5 +1,7 @@
 // A lent list of bytes or of numbers that is filled from its start on: one is added behind the other, and what does not fit is left out. No
 // place is touched but those that are filled. Bytes are added by `text`.
+#![tactic(auto)]
+
 ghost use Rattle.std.specs.Prelude.{[], ◌∷◌, ◌≡◌};
 ghost use Rattle.page.specs.Page.{added, page};
 

@@ -2,6 +2,8 @@
 //
 // The functions over the struct are few and thin: each but `new` takes it apart and calls one on the bytes and the place. The two with
 // plain parameters, below them, are for everyone else.
+#![tactic(auto)]
+
 ghost use Rattle.std.specs.Prelude.{◌≡◌, ◌+◌};
 ghost use Rattle.reader.specs.Reader.{reader_of, place_after, moved_on};
 ghost use Rattle.workfile.specs.Layout.{booking_at, arrival_at};
@@ -9,7 +11,7 @@ ghost use Rattle.workfile.specs.Layout.{booking_at, arrival_at};
 use arrival::Arrival;
 use booking::Booking;
 
-#[derive(Drop)]
+#[derive(Clone, Copy)]
 pub struct Reader<'a> {
     pub file: &'a [u8],
     pub at: usize,

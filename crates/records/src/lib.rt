@@ -1,6 +1,8 @@
 // The 64 records of a run, told when it is over from its work file, its finish list and the counts that were kept beside it. Handed on in
 // the run's own loop the array would take longer than the rest of it. Each job, and then each server's counts, change one record of the
 // array, which is handed on and back by value.
+#![tactic(auto)]
+
 ghost use Rattle.std.specs.Prelude.{◌≡◌, ◌+◌, ◌≤◌, ◌<◌, max, min, get_or};
 ghost use Rattle.clock.specs.Clock.{last_tick};
 ghost use Rattle.sizes.specs.Sizes.{most_servers, open_job};

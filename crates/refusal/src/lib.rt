@@ -1,9 +1,11 @@
 // The refusals of the rules by number and place, and the answer that is either "accepted" or one of them.
+#![tactic(auto)]
+
 ghost use Rattle.std.specs.Prelude.{◌≡◌};
 ghost use Rattle.refusal.specs.Refusals.{number_of, place_of};
 
 // What was wrong. `specs/Refusals.antt` gives each its number and its place.
-#[derive(Drop)]
+#[derive(Clone, Copy)]
 pub enum Refusal {
     // The file is too short or too long.
     FileLength,
@@ -29,7 +31,7 @@ pub enum Refusal {
     WaitingWork,
 }
 
-#[derive(Drop)]
+#[derive(Clone, Copy)]
 pub enum Verdict {
     Accepted,
     Refused(Refusal),

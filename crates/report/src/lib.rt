@@ -1,4 +1,6 @@
 // The day report of a work file, as text in a lent buffer, and that no report is longer than its text.
+#![tactic(auto)]
+
 mod lines;
 
 ghost use Rattle.std.specs.Prelude.{◌≤◌, min, length, get_or, ◌≡◌};

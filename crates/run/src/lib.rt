@@ -2,6 +2,8 @@
 // records.
 // The rules know a run tick by tick. This one goes from event to event, a server that runs going on until its job is done, another
 // wins, or something arrives, and is proved to give what the rules give.
+#![tactic(auto)]
+
 mod budgets;
 mod jobs;
 mod reading;
@@ -22,7 +24,7 @@ ghost use Rattle.run.specs.Outcome.{accepted_run, outcome, run_says};
 use refusal::Verdict;
 use summary::Summary;
 
-#[derive(Drop)]
+#[derive(Clone, Copy)]
 pub struct Ran {
     pub verdict: Verdict,
     // How many segments the whole trace has.

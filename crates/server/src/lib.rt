@@ -1,12 +1,14 @@
 // A server: its booking, what it holds from one moment to the next, and how a moment changes that. The change is defined in `specs/`; the
 // code that makes it is that of `steps` and of `dispatcher`.
+#![tactic(auto)]
+
 ghost use Rattle.std.specs.Prelude.{◌≡◌};
 ghost use Rattle.server.specs.Server.{fresh, vacant};
 
 use booking::Booking;
 use clock::{Length, Moment};
 
-#[derive(Drop)]
+#[derive(Clone, Copy)]
 pub struct Server {
     // Q
     pub budget: Length,
@@ -21,7 +23,7 @@ pub struct Server {
 }
 
 // How a server took the work of an arrival: it was idle and woke, with its budget and deadline kept or renewed, or it was busy.
-#[derive(Drop)]
+#[derive(Clone, Copy)]
 pub enum Waking {
     Kept,
     Renewed,

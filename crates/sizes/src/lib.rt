@@ -1,4 +1,5 @@
 // The numbers that the rules set, each named once. `specs/Sizes.antt` has the same for the definitions.
+#![tactic(auto)]
 
 // The bytes of a work file's header, which no work file is shorter than.
 pub const HEADER_BYTES: usize = 24;

@@ -1,6 +1,8 @@
 // The code of steps 1 to 3 of a moment, at one server: it takes the work of an arrival, it is passed over or not, and it is served for a
 // tick. All are proved for all numbers: where 64 bits might not hold what a step works out, where the work would pass 4,294,967,295, and
 // where there is no work or no budget to serve, the server stays as it is. A dispatcher takes no such step.
+#![tactic(auto)]
+
 mod arriving;
 mod fitting;
 

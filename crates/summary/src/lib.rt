@@ -1,4 +1,6 @@
 // The summary of a run: 64 records, one for each server, each with the response, which is absent where nothing has finished.
+#![tactic(auto)]
+
 ghost use Rattle.std.specs.Prelude.{not, ◌&&◌, ◌≡◌, eqb, ltb, replicate, set};
 ghost use Rattle.sizes.specs.Sizes.{most_servers};
 ghost use Rattle.summary.specs.Summary.{blank};
@@ -6,13 +8,13 @@ ghost use Rattle.summary.specs.Summary.{blank};
 use clock::Length;
 
 // How long the jobs of a server took that have finished. A mean is the total over their count.
-#[derive(Drop)]
+#[derive(Clone, Copy)]
 pub enum Response {
     Absent,
     Over { total: Length, longest: Length },
 }
 
-#[derive(Drop)]
+#[derive(Clone, Copy)]
 pub struct Summary {
     pub arrived: u64,
     pub finished: u64,

@@ -10,7 +10,7 @@ use booking::Booking;
 use clock::Moment;
 
 // What is counted of a server: its ticks from a moment on, under deadlines no later than another.
-#[derive(Drop)]
+#[derive(Clone, Copy)]
 pub struct Window {
     pub server: usize,
     // a

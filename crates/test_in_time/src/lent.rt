@@ -18,7 +18,7 @@ use dispatcher::{Dispatcher, TickAnswer};
 use server::Server;
 
 // A count of ticks, and the dispatcher after them.
-#[derive(Drop)]
+#[derive(Clone, Copy)]
 pub struct Counted {
     pub got: u64,
     pub dispatcher: Dispatcher,

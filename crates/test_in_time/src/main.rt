@@ -2,6 +2,8 @@
 // what a server got from its bandwidth, with no test before either. What a server got it counts from a moment at which that had no work
 // waiting: tick by tick as the lent moves answer, and segment by segment as the trace list has them, where the finish list tells that no
 // work was waiting. What it writes is held to the file `stdout`.
+#![tactic(auto)]
+
 mod bandwidth;
 mod lent;
 mod lists;

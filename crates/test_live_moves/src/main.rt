@@ -1,6 +1,8 @@
 // A live loop: it plays lists of live moves twice, on one dispatcher that is kept and lent to each move, and by value, and writes every
 // answer. The two blocks of a list are the same. The lists are File P of the rules, waking, and the refusals of an arrival and of a tick;
 // tables that are only opened show the refusals of a live table. What it writes is held to the file `stdout`.
+#![tactic(auto)]
+
 mod by_value;
 mod lent;
 mod say;

@@ -11,7 +11,7 @@ pub(crate) const TICK: u64 = 1001;
 // Of a move that is made often only the last answers are written.
 const WRITTEN: u64 = 6;
 
-#[derive(Drop)]
+#[derive(Clone, Copy)]
 pub enum Move {
     Tick {
         written: bool,

@@ -1,4 +1,6 @@
 // Runs the work files of a script beside lists of any length, and writes what each run gives. What it writes is held to the file `stdout`.
+#![tactic(auto)]
+
 mod case;
 mod say;
 mod script;

@@ -6,7 +6,7 @@ ghost use Rattle.io.specs.Counts.{IsPrefixLen};
 const MOST: u64 = 4294967295;
 
 // What the bytes read so far end in. A fault is a byte that no script has, or a number that is too large.
-#[derive(Drop)]
+#[derive(Clone, Copy)]
 enum Place {
     Between,
     Number,
@@ -14,14 +14,14 @@ enum Place {
     Fault,
 }
 
-#[derive(Drop)]
+#[derive(Clone, Copy)]
 struct Reading {
     place: Place,
     // What the digits of a number come to so far, 0 outside of one.
     value: u64,
 }
 
-#[derive(Drop)]
+#[derive(Clone, Copy)]
 pub(crate) struct Read {
     // How many numbers the script has.
     pub count: usize,

@@ -1,5 +1,7 @@
 // Text in a lent buffer: bytes and numbers in decimal, added one behind the other. What does not fit is left out, and no place is
 // touched but those that the added bytes take.
+#![tactic(auto)]
+
 ghost use Rattle.std.specs.Prelude.{◌%◌, [], ◌∷◌, ◌++◌, ◌≡◌};
 ghost use Rattle.text.specs.Line.{decimal, digit};
 ghost use Rattle.page.specs.Page.{added, page};

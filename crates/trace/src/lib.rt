@@ -1,11 +1,13 @@
 // The dispatch trace: segments, and the lent list that holds the first of them.
+#![tactic(auto)]
+
 ghost use Rattle.std.specs.Prelude.{◌*◌, min, length, get_or, ◌≡◌};
 ghost use Rattle.trace.specs.Written.{put, segment_in};
 
 use clock::{Length, Moment};
 
 // Consecutive ticks that were given to one server under one deadline.
-#[derive(Drop)]
+#[derive(Clone, Copy)]
 pub struct Segment {
     pub start: Moment,
     pub length: Length,

@@ -1,5 +1,7 @@
 // A work file: where its header and its records lie, and the work that they hold. Nothing is copied from the lent bytes but the numbers
 // that are read.
+#![tactic(auto)]
+
 ghost use Rattle.std.specs.Prelude.{◌≡◌};
 ghost use Rattle.workfile.specs.Layout.{header, booking_at, arrival_at};
 
@@ -9,13 +11,13 @@ use clock::{Length, Moment};
 use numbers::word_at;
 
 // How many records there are, and the byte at which the first of them starts.
-#[derive(Drop)]
+#[derive(Clone, Copy)]
 pub struct Block {
     pub count: usize,
     pub offset: usize,
 }
 
-#[derive(Drop)]
+#[derive(Clone, Copy)]
 pub struct Header {
     // H
     pub frame: Length,
