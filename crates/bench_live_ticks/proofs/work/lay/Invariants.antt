@@ -1,0 +1,13 @@
+-- `bench_live_ticks::work::lay` meets its promise: the pairs are no more than half the length, which no store changes.
+use Prim.Native.Nat.{◌-◌, ◌/◌, ◌≤◌}
+use lib.ListN.{length, length-set}
+use lib.Seq.{length-take-le}
+use mathlib.Core.Path.{◌≡◌, refl, sym}
+use native.Mathlib.Omega.{arith}
+use Rattle.bench_live_ticks.proofs.work.lay.Given as goal
+
+abbrev pub invariant-loop-k : goal.invariant-loop-k
+invariant-loop-k l = (l.k ≤ l.initial.table) × ((l.initial.table ≤ length l.file / 2) × (length l.table ≡ length l.file))
+
+abbrev pub decreases-loop-k : goal.decreases-loop-k
+decreases-loop-k l = l.initial.table - l.k

@@ -1,0 +1,19 @@
+-- `day_report::print_report` meets its promise: what is written is what `whole_report` leaves of the bytes that were read.
+use mathlib.Core.Logic.{inl, inr}
+use mathlib.Core.Path.{refl}
+use Rattle.day_report.proofs.print_report.Goals as goal
+
+pub returns-then-not-is_ended : goal.returns-then-not-is_ended
+returns-then-not-is_ended c = inl refl
+
+pub returns-then-not-written : goal.returns-then-not-written
+returns-then-not-written c =
+    let report = c.whole_report-end in
+    let read = c.read_full-length in
+    inr (read.result, report.result, read.ensures.0, report.ensures.1)
+
+pub returns-else-not-written : goal.returns-else-not-written
+returns-else-not-written c =
+    let report = c.whole_report-end in
+    let read = c.read_full-length in
+    inr (read.result, report.result, read.ensures.0, report.ensures.1)

@@ -1,0 +1,15 @@
+-- `day_report::whole_report` meets its promise: the text has room for any report.
+use lib.Seq.{length-take-le}
+use mathlib.Core.Path.{sym}
+use Rattle.report.proofs.LengthLaws.{report_whole}
+use Rattle.page.proofs.PageLaws.{added_within}
+use Rattle.day_report.proofs.whole_report.Goals as goal
+
+pub shape_of-text : goal.shape_of-text
+shape_of-text c = c.day_report.auto.1.0
+
+pub returns : goal.returns
+returns c =
+    let made = c.day_report.ensures in
+    let within = added_within _ _ _ _ made in
+    ((within, sym (length-take-le _ _ within)), report_whole _ _ _ _ c.requires made)

@@ -1,0 +1,47 @@
+-- `dispatcher::run` meets its promise: it goes through the steps of the definition, and the last tick of a budget is the one that is
+-- left alone.
+use Prim.Native.Nat.{ℕ, ◌-◌, ◌≤◌}
+use borrow.Author.Tests.{eqb-false, ne_eqb}
+use lib.Dec.{eqb}
+use mathlib.Core.Path.{◌≡◌, sym, ◌∙◌}
+use native.Mathlib.Decide.{ℕ_discrete}
+use native.Mathlib.Omega.{arith}
+use Rattle.server.specs.Ranges.{Ranged}
+use Rattle.steps.proofs.StepLaws.{tick_ranged}
+use Rattle.dispatcher.specs.Moves.{ran}
+use Rattle.dispatcher.specs.Pick.{server_at}
+use Rattle.dispatcher.proofs.PickLaws.{earliest_busy, earliest_charged}
+use Rattle.dispatcher.proofs.run.Goals as goal
+
+-- the server works, has budget left, and is within its ranges
+works : (c : tie.Start) → (server_at c.args.d c.args.i).waiting.ticks ≡ 0 → ⊥
+works c = eqb-false _ _ (earliest_busy c.requires.within.1)
+
+charged : (c : tie.Start) → 1 ≤ (server_at c.args.d c.args.i).remaining.ticks
+charged c = earliest_charged c.requires.within.0 c.requires.within.1
+
+ranged : (c : tie.Start) → Ranged c.args.d.clock (server_at c.args.d c.args.i)
+ranged c = c.requires.within.0.servers _ c.requires.within.1.among
+
+-- one tick is left where one less is none
+last_left : (n : ℕ) → 1 ≤ n → eqb n 1 ≡ eqb (n - 1) 0
+last_left n h = go (ℕ_discrete n 1)
+  where
+    go : Dec (n ≡ 1) → eqb n 1 ≡ eqb (n - 1) 0
+    go (yes e) = rw e
+    go (no e) = ne_eqb _ _ e ∙ sym (ne_eqb (n - 1) 0 (λ z. e (omega arith)))
+
+pub pass-requires : goal.pass-requires
+pass-requires c = rw c.with_server-served.ensures c.requires.tick_lt_clock_end
+
+pub returns : goal.returns
+unfolding ran
+returns c =
+    c.pass.ensures
+    ∙ rw (
+      c.with_server-served.ensures,
+      c.serve.ensures,
+      c.server_at-s.ensures,
+      tick_ranged (ranged start) c.requires.within.0.clock (works start) (charged start),
+      last_left _ (charged start),
+    )

@@ -1,0 +1,18 @@
+-- `listing::sheet_of` meets its promise: after k turns the first k lines have their bookings.
+use Prim.Native.Nat.{ℕ, ◌-◌, ◌≤◌, ◌<◌}
+use mathlib.Core.Path.{◌≡◌}
+use native.Mathlib.Numerals.{add-one}
+use native.Mathlib.Omega.{arith}
+use Rattle.booking.specs.Share.{booked}
+use Rattle.counting.proofs.PlacesLaws.{filled, filled_none, filled_more, filled_whole}
+use Rattle.counting.specs.Places.{places}
+use Rattle.sizes.specs.Sizes.{most_servers}
+use Rattle.workfile.specs.Work.{work_under}
+use Rattle.listing.proofs.sheet_of.Given as goal
+
+abbrev pub invariant-loop-k : goal.invariant-loop-k
+invariant-loop-k l = 
+    (l.k ≤ most_servers) × (l.bookings ≡ places most_servers (filled (work_under l.h l.file).table.booking (booked 0 0) l.k))
+
+abbrev pub decreases-loop-k : goal.decreases-loop-k
+decreases-loop-k l = most_servers - l.k

@@ -1,0 +1,22 @@
+-- `opening::open_table` meets its promise: the answer is the judgement, and each of its two cases hands back its dispatcher.
+use mathlib.Core.Path.{sym, ◌∙◌, ap}
+use Rattle.dispatcher.proofs.MoveLaws.{and_within}
+use Rattle.refusal.specs.Refusals.{on_paper}
+use Rattle.opening.proofs.OpeningLaws.{accepted_in_range, opening_accepted, opening_refused, opening_within}
+use Rattle.opening.proofs.open_table.Goals as goal
+
+pub start-dispatcher-requires : goal.start-dispatcher-requires
+start-dispatcher-requires c =
+    (accepted_in_range _ _ (sym c.judge-answer.ensures ∙ ap on_paper c.enum_told-1.given.1)).few
+
+pub returns-in-Accepted : goal.returns-in-Accepted
+returns-in-Accepted c =
+    let told = ap on_paper c.enum_told-1.given.1 in
+    and_within (opening_within _ _)
+    (rw (told, c.start-dispatcher.ensures) (sym (opening_accepted _ _ (sym c.judge-answer.ensures ∙ told))))
+
+pub returns-in-Refused : goal.returns-in-Refused
+returns-in-Refused c =
+    let told = ap on_paper c.enum_told-in-Refused-1.given.1 in
+    and_within (opening_within _ _)
+    (rw (told, c.no_servers-dispatcher.ensures) (sym (opening_refused _ _ _ _ (sym c.judge-answer.ensures ∙ told))))

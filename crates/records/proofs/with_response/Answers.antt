@@ -1,0 +1,24 @@
+-- `records::with_response` meets its promise: its two cases are those of the definition.
+use Prim.Native.Nat.{ℕ, ◌+◌}
+use mathlib.Core.Path.{sym, ◌∙◌, ap}
+use native.Mathlib.Omega.{arith}
+use Rattle.clock.specs.Clock.{ticks}
+use Rattle.summary.specs.declared.Response.TheVariants.{Over}
+use Rattle.summary.proofs.SummaryLaws.{total_of, total_over, with_response_first, with_response_more}
+use Rattle.records.proofs.with_response.Goals as goal
+
+pub returns-in_default : goal.returns-in_default
+returns-in_default c = rw c.enum_told-1.given.1 (sym (with_response_first _))
+
+pub overflow_add-result : goal.overflow_add-result
+overflow_add-result c =
+    let before = ap total_of c.before-1.given.1 ∙ total_over _ _ in
+    omega (arith, before, c.requires)
+
+pub returns : goal.returns
+returns c =
+    let parts = c.before-1.given.0 in
+    let lasted = c.args.lasted in
+    rw c.before-1.given.1
+    (ap (λ (n : ℕ). Over (ticks (parts.0.ticks + lasted.ticks)) (ticks n)) c.longer.ensures
+    ∙ sym (with_response_more parts.0 parts.1.0 lasted.ticks))

@@ -1,0 +1,51 @@
+-- `report::day_report` meets its promise: the verdict of the run tells which of the two reports it is.
+use Prim.Native.Nat.{ℕ}
+use lib.ListN.{length}
+use mathlib.Core.List.{List}
+use mathlib.Core.Path.{◌≡◌, sym}
+use Rattle.report.proofs.RanLaws.{ran_told, report_accepted, report_refused, Left}
+use Rattle.run.specs.declared.Ran.{Ran}
+use Rattle.run.specs.Outcome.{outcome, run_says}
+use Rattle.sizes.specs.Sizes.{most_arrivals, trace_numbers}
+use Rattle.page.proofs.PageLaws.{added_as, added_kept}
+use Rattle.report.proofs.day_report.Goals as goal
+
+-- what the run has left
+left : (file list ends after ended : List ℕ) (r : Ran) → trace_numbers ≡ length list → most_arrivals ≡ length ends
+    → run_says r after ended ≡ outcome file list ends → Left file after ended r
+left file list ends after ended r list_long ends_long e =
+    record { list = list; ends = ends; list_long = sym list_long; ends_long = sym ends_long; ran_is = e }
+
+pub slice_bounds-run-end : goal.slice_bounds-run-end
+slice_bounds-run-end c = c.trace_list-list.ensures
+
+pub slice_bounds-run-end-2 : goal.slice_bounds-run-end-2
+slice_bounds-run-end-2 c = c.finish_list-finishes.ensures
+
+pub enum_told-1 : goal.enum_told-1
+enum_told-1 c = c.in-Accepted.keys1
+
+pub accepted-requires : goal.accepted-requires
+accepted-requires c =
+    ran_told (left _ _ _ _ _ c.run-ran.result c.trace_list-list.ensures c.finish_list-finishes.ensures c.run-ran.ensures) c.enum_told-1.given.1
+
+pub enum_known-verdict : goal.enum_known-verdict
+enum_known-verdict c = c.in-Accepted.keys2
+
+pub returns-in-Accepted : goal.returns-in-Accepted
+returns-in-Accepted c =
+    added_as _
+    (sym (report_accepted (left _ _ _ _ _ c.run-ran.result c.trace_list-list.ensures c.finish_list-finishes.ensures c.run-ran.ensures) c.enum_told-1.given.1))
+    c.accepted.ensures
+
+pub shape_of-text-in-Accepted : goal.shape_of-text-in-Accepted
+shape_of-text-in-Accepted c = added_kept _ _ (returns c)
+
+pub returns-in-Refused : goal.returns-in-Refused
+returns-in-Refused c =
+    added_as _
+    (sym (report_refused (left _ _ _ _ _ c.run-ran.result c.trace_list-list.ensures c.finish_list-finishes.ensures c.run-ran.ensures) _ c.verdict-1.given.1))
+    c.refused.ensures
+
+pub shape_of-text-in-Refused : goal.shape_of-text-in-Refused
+shape_of-text-in-Refused c = added_kept _ _ (returns_2 c)

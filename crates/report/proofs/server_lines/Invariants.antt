@@ -1,0 +1,17 @@
+-- `report::server_lines` meets its promise: after i turns the lines of the first i servers are added.
+use Prim.Native.Nat.{◌-◌, ◌≤◌}
+use lib.ListN.{get_or}
+use mathlib.Core.Path.{◌≡◌}
+use native.Mathlib.Omega.{arith}
+use Rattle.report.specs.DayReport.{server_line}
+use Rattle.summary.specs.Summary.{blank}
+use Rattle.page.specs.Page.{page, added, each}
+use Rattle.page.proofs.PageLaws.{added_kept, each_none, each_next, each_all}
+use Rattle.report.proofs.server_lines.Given as goal
+
+abbrev pub invariant-loop-i : goal.invariant-loop-i
+invariant-loop-i l = 
+    (l.i ≤ l.records) × (page l.text l.at ≡ added (each l.i (λ j. server_line j (get_or l.initial.text j blank))) (page l.next l.servers))
+
+abbrev pub decreases-loop-i : goal.decreases-loop-i
+decreases-loop-i l = l.records - l.i

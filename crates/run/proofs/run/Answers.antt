@@ -1,0 +1,25 @@
+-- `run::run` meets its promise: the verdict is the judgement, and each of its two cases has its outcome.
+use mathlib.Core.Path.{refl, sym, ◌∙◌, ap}
+use Rattle.refusal.specs.declared.Verdict.{Verdict}
+use Rattle.refusal.specs.Refusals.{on_paper}
+use Rattle.run.specs.Outcome.{run_says}
+use Rattle.run.proofs.OutcomeLaws.{made, outcome_accepted, outcome_refused}
+use Rattle.run.proofs.run.Goals as goal
+
+pub returns-in_default : goal.returns-in_default
+returns-in_default c =
+    let told = c.enum_told-in_default-1.given.1 in
+    let a = c.args in
+    ap
+    (λ (v : Verdict). run_says (record { verdict = v; segments = 0; summaries = c.blank_records.result }) a.list.now a.finishes.now)
+    told
+    ∙ made _ refl c.blank_records.ensures refl refl
+    ∙ sym (outcome_refused _ _ _ (sym c.judge-verdict.ensures ∙ ap on_paper told))
+
+pub play-requires : goal.play-requires
+play-requires c = sym c.judge-verdict.ensures ∙ ap on_paper c.enum_told-1.given.1
+
+pub returns : goal.returns
+returns c =
+    c.play.ensures
+    ∙ sym (outcome_accepted _ _ _ (sym c.judge-verdict.ensures ∙ ap on_paper c.enum_told-1.given.1))

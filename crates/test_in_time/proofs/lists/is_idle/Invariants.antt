@@ -1,0 +1,20 @@
+-- `test_in_time::lists::is_idle` meets its promise: after k turns none of the first k jobs waits, and the first that does is enough.
+use Prim.Native.Nat.{ℕ, ◌-◌, ◌≤◌, ◌<◌}
+use borrow.Author.Tests.{not-true, not-false}
+use lib.ListN.{get_or}
+use mathlib.Core.Bool.{Bool, true}
+use mathlib.Core.Path.{◌≡◌, refl, sym, ◌∙◌, ap}
+use native.Mathlib.Omega.{arith}
+use Rattle.arrival.specs.declared.Arrival.{Arrival}
+use Rattle.books.proofs.Accepted.{arrival_read, arrivals_read}
+use Rattle.counting.proofs.BelowLaws.{every_fails, every_next}
+use Rattle.counting.specs.Below.{every}
+use Rattle.workfile.specs.Work.{work}
+use Rattle.test_in_time.specs.Working.Lists.{is_done}
+use Rattle.test_in_time.proofs.lists.is_idle.Given as goal
+
+abbrev pub invariant-loop-k : goal.invariant-loop-k
+invariant-loop-k l = (l.k ≤ l.jobs) × (every l.k (λ j. is_done l.w ((work l.file).arrival j) (get_or l.finishes j 0)) ≡ true)
+
+abbrev pub decreases-loop-k : goal.decreases-loop-k
+decreases-loop-k l = l.jobs - l.k

@@ -1,0 +1,15 @@
+-- `text::add` meets its promise: after k bytes the page is the one that was lent with the first k added.
+use Prim.Native.Nat.{◌-◌, ◌≤◌}
+use lib.ListN.{length, take}
+use mathlib.Core.Path.{◌≡◌, sym}
+use native.Mathlib.Omega.{arith}
+use Rattle.page.specs.Page.{page, added}
+use Rattle.page.proofs.PageLaws.{added_none, added_next, added_all, added_kept}
+use Rattle.text.proofs.add.Given as goal
+
+abbrev pub invariant-loop-k : goal.invariant-loop-k
+invariant-loop-k l = 
+    (l.k ≤ length l.initial.text) × (page l.text l.at ≡ added (take l.k l.initial.text) (page l.next l.bytes))
+
+abbrev pub decreases-loop-k : goal.decreases-loop-k
+decreases-loop-k l = length l.initial.text - l.k
