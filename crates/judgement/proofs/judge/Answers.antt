@@ -68,10 +68,10 @@ table_says c =
 
 pub returns-in-Accepted : goal.returns-in-Accepted
 returns-in-Accepted c =
-    let admitted = sym (table_says c.?before) ∙ ap on_paper c.enum_told-1.given.1 in
+    let admitted = sym (table_says c.?before) ∙ ap on_paper c.in-Accepted.is in
     c.judge_arrivals.ensures ∙ sym (judged_so c.?before _ ∙ work_admitted _ _ admitted)
 
 pub returns-in-Refused : goal.returns-in-Refused
 returns-in-Refused c =
-    let told = ap on_paper c.enum_told-in-Refused-1.given.1 in
+    let told = ap on_paper c.in-Refused.is in
     told ∙ sym (judged_so c.?before _ ∙ work_refused _ _ _ _ (sym (table_says c.?before) ∙ told))

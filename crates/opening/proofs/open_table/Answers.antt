@@ -7,16 +7,16 @@ use Rattle.opening.proofs.open_table.Goals as goal
 
 pub start-dispatcher-requires : goal.start-dispatcher-requires
 start-dispatcher-requires c =
-    (accepted_in_range _ _ (sym c.judge-answer.ensures ∙ ap on_paper c.enum_told-1.given.1)).few
+    (accepted_in_range _ _ (sym c.judge-answer.ensures ∙ ap on_paper c.in-Accepted.is)).few
 
 pub returns-in-Accepted : goal.returns-in-Accepted
 returns-in-Accepted c =
-    let told = ap on_paper c.enum_told-1.given.1 in
+    let told = ap on_paper c.in-Accepted.is in
     and_within (opening_within _ _)
     (rw (told, c.start-dispatcher.ensures) (sym (opening_accepted _ _ (sym c.judge-answer.ensures ∙ told))))
 
 pub returns-in-Refused : goal.returns-in-Refused
 returns-in-Refused c =
-    let told = ap on_paper c.enum_told-in-Refused-1.given.1 in
+    let told = ap on_paper c.in-Refused.is in
     and_within (opening_within _ _)
     (rw (told, c.no_servers-dispatcher.ensures) (sym (opening_refused _ _ _ _ (sym c.judge-answer.ensures ∙ told))))

@@ -8,17 +8,17 @@ use Rattle.summary.proofs.SummaryLaws.{total_of, total_over, with_response_first
 use Rattle.records.proofs.with_response.Goals as goal
 
 pub returns-in_default : goal.returns-in_default
-returns-in_default c = rw c.enum_told-1.given.1 (sym (with_response_first _))
+returns-in_default c = rw c.in_default.is (sym (with_response_first _))
 
 pub overflow_add-result : goal.overflow_add-result
 overflow_add-result c =
-    let before = ap total_of c.before-1.given.1 ∙ total_over _ _ in
+    let before = ap total_of c.in-Over.is ∙ total_over _ _ in
     omega (arith, before, c.requires)
 
 pub returns : goal.returns
 returns c =
     let parts = c.before-1.given.0 in
     let lasted = c.args.lasted in
-    rw c.before-1.given.1
+    rw c.in-Over.is
     (ap (λ (n : ℕ). Over (ticks (parts.0.ticks + lasted.ticks)) (ticks n)) c.longer.ensures
     ∙ sym (with_response_more parts.0 parts.1.0 lasted.ticks))

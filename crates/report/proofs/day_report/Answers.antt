@@ -27,7 +27,7 @@ enum_told-1 c = c.in-Accepted.keys1
 
 pub accepted-requires : goal.accepted-requires
 accepted-requires c =
-    ran_told (left _ _ _ _ _ c.run-ran.result c.trace_list-list.ensures c.finish_list-finishes.ensures c.run-ran.ensures) c.enum_told-1.given.1
+    ran_told (left _ _ _ _ _ c.run-ran.result c.trace_list-list.ensures c.finish_list-finishes.ensures c.run-ran.ensures) c.in-Accepted.is
 
 pub enum_known-verdict : goal.enum_known-verdict
 enum_known-verdict c = c.in-Accepted.keys2
@@ -35,7 +35,7 @@ enum_known-verdict c = c.in-Accepted.keys2
 pub returns-in-Accepted : goal.returns-in-Accepted
 returns-in-Accepted c =
     added_as _
-    (sym (report_accepted (left _ _ _ _ _ c.run-ran.result c.trace_list-list.ensures c.finish_list-finishes.ensures c.run-ran.ensures) c.enum_told-1.given.1))
+    (sym (report_accepted (left _ _ _ _ _ c.run-ran.result c.trace_list-list.ensures c.finish_list-finishes.ensures c.run-ran.ensures) c.in-Accepted.is))
     c.accepted.ensures
 
 pub shape_of-text-in-Accepted : goal.shape_of-text-in-Accepted
@@ -44,7 +44,7 @@ shape_of-text-in-Accepted c = added_kept _ _ (returns c)
 pub returns-in-Refused : goal.returns-in-Refused
 returns-in-Refused c =
     added_as _
-    (sym (report_refused (left _ _ _ _ _ c.run-ran.result c.trace_list-list.ensures c.finish_list-finishes.ensures c.run-ran.ensures) _ c.verdict-1.given.1))
+    (sym (report_refused (left _ _ _ _ _ c.run-ran.result c.trace_list-list.ensures c.finish_list-finishes.ensures c.run-ran.ensures) _ c.in-Refused.is))
     c.refused.ensures
 
 pub shape_of-text-in-Refused : goal.shape_of-text-in-Refused

@@ -15,7 +15,7 @@ use Rattle.report.proofs.job_lines.Given as goal
 
 abbrev pub invariant-loop-k : goal.invariant-loop-k
 invariant-loop-k l = 
-    (l.k ≤ l.initial.text) × (page l.text l.at ≡ added (each l.k (job_in (work l.finishes) l.h)) (page l.next l.file))
+    (l.k ≤ l.jobs) × (page l.text l.at ≡ added (each l.k (job_in (work l.file) l.finishes)) (page l.initial.text l.next))
 
 abbrev pub decreases-loop-k : goal.decreases-loop-k
-decreases-loop-k l = l.initial.text - l.k
+decreases-loop-k l = l.jobs - l.k

@@ -10,7 +10,7 @@ use Rattle.report.proofs.segment_lines.Given as goal
 
 abbrev pub invariant-loop-k : goal.invariant-loop-k
 invariant-loop-k l = 
-    (l.k ≤ l.initial.text) × (page l.text l.at ≡ added (each l.k (λ j. segment_line (segment_in l.shown j))) (page l.next l.list))
+    (l.k ≤ l.shown) × (page l.text l.at ≡ added (each l.k (λ j. segment_line (segment_in l.list j))) (page l.initial.text l.next))
 
 abbrev pub decreases-loop-k : goal.decreases-loop-k
-decreases-loop-k l = l.initial.text - l.k
+decreases-loop-k l = l.shown - l.k

@@ -11,7 +11,7 @@ use Rattle.report.proofs.server_lines.Given as goal
 
 abbrev pub invariant-loop-i : goal.invariant-loop-i
 invariant-loop-i l = 
-    (l.i ≤ l.records) × (page l.text l.at ≡ added (each l.i (λ j. server_line j (get_or l.initial.text j blank))) (page l.next l.servers))
+    (l.i ≤ l.servers) × (page l.text l.at ≡ added (each l.i (λ j. server_line j (get_or l.records j blank))) (page l.initial.text l.next))
 
 abbrev pub decreases-loop-i : goal.decreases-loop-i
-decreases-loop-i l = l.records - l.i
+decreases-loop-i l = l.servers - l.i

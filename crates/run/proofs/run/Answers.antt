@@ -8,7 +8,7 @@ use Rattle.run.proofs.run.Goals as goal
 
 pub returns-in_default : goal.returns-in_default
 returns-in_default c =
-    let told = c.enum_told-in_default-1.given.1 in
+    let told = c.in_default.is in
     let a = c.args in
     ap
     (λ (v : Verdict). run_says (record { verdict = v; segments = 0; summaries = c.blank_records.result }) a.list.now a.finishes.now)
@@ -17,9 +17,9 @@ returns-in_default c =
     ∙ sym (outcome_refused _ _ _ (sym c.judge-verdict.ensures ∙ ap on_paper told))
 
 pub play-requires : goal.play-requires
-play-requires c = sym c.judge-verdict.ensures ∙ ap on_paper c.enum_told-1.given.1
+play-requires c = sym c.judge-verdict.ensures ∙ ap on_paper c.in-Accepted.is
 
 pub returns : goal.returns
 returns c =
     c.play.ensures
-    ∙ sym (outcome_accepted _ _ _ (sym c.judge-verdict.ensures ∙ ap on_paper c.enum_told-1.given.1))
+    ∙ sym (outcome_accepted _ _ _ (sym c.judge-verdict.ensures ∙ ap on_paper c.in-Accepted.is))

@@ -3,7 +3,7 @@ use Rattle.std.proofs.Common.{◌≡◌, ◌-◌, ◌/◌, ◌≤◌, length, re
 use Rattle.test_live_moves.proofs.budgets_of_one.Given as goal
 
 abbrev pub invariant-loop-k : goal.invariant-loop-k
-invariant-loop-k l = (l.k ≤ length l.pairs / 2) × (length l.table ≡ length l.pairs)
+invariant-loop-k l = (l.k ≤ length l.initial.table / 2) × (length l.table ≡ length l.initial.table)
 
 abbrev pub decreases-loop-k : goal.decreases-loop-k
-decreases-loop-k l = length l.pairs / 2 - l.k
+decreases-loop-k l = length l.initial.table / 2 - l.k

@@ -9,7 +9,7 @@ use Rattle.text.proofs.add.Given as goal
 
 abbrev pub invariant-loop-k : goal.invariant-loop-k
 invariant-loop-k l = 
-    (l.k ≤ length l.initial.text) × (page l.text l.at ≡ added (take l.k l.initial.text) (page l.next l.bytes))
+    (l.k ≤ length l.bytes) × (page l.text l.at ≡ added (take l.k l.bytes) (page l.initial.text l.next))
 
 abbrev pub decreases-loop-k : goal.decreases-loop-k
-decreases-loop-k l = length l.initial.text - l.k
+decreases-loop-k l = length l.bytes - l.k

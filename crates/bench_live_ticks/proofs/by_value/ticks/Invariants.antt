@@ -9,7 +9,7 @@ use Rattle.bench_live_ticks.proofs.TicksLaws.{having, tallied_none, tallied_next
 use Rattle.bench_live_ticks.proofs.by_value.ticks.Given as goal
 
 abbrev pub invariant-loop-k : goal.invariant-loop-k
-invariant-loop-k l = (l.k ≤ l.initial.d) × ((having l.tally l.d ≡ tallied l.count l.k) × Within l.d)
+invariant-loop-k l = (l.k ≤ l.count) × ((having l.tally l.d ≡ tallied l.initial.d l.k) × Within l.d)
 
 abbrev pub decreases-loop-k : goal.decreases-loop-k
-decreases-loop-k l = l.initial.d - l.k
+decreases-loop-k l = l.count - l.k

@@ -21,13 +21,13 @@ pub overflow_add-t-in-Ran : goal.overflow_add-t-in-Ran
 overflow_add-t-in-Ran c = omega (arith, c.requires.ran)
 
 pub overflow_add-t-in-Ran-2 : goal.overflow_add-t-in-Ran-2
-overflow_add-t-in-Ran-2 c = omega (arith, c.requires.postponed, byte_small c.answer-1.given.0.1.1.0)
+overflow_add-t-in-Ran-2 c = omega (arith, c.requires.postponed, byte_small c.in-Ran.postponed)
 
 pub returns-in-Idle : goal.returns-in-Idle
-returns-in-Idle c = rw c.enum_told-1.given.1 refl
+returns-in-Idle c = rw c.in-Idle.is refl
 
 pub returns-in-Ran : goal.returns-in-Ran
-returns-in-Ran c = rw (c.answer-1.given.1, byte_is c.answer-1.given.0.1.1.0) refl
+returns-in-Ran c = rw (c.in-Ran.is, byte_is c.in-Ran.postponed) refl
 
 pub returns-in-Refused : goal.returns-in-Refused
-returns-in-Refused c = rw c.enum_told-in-Refused-1.given.1 refl
+returns-in-Refused c = rw c.in-Refused.is refl

@@ -7,7 +7,7 @@ use native.Mathlib.Omega.{arith}
 use Rattle.bench_live_ticks.proofs.work.lay.Given as goal
 
 abbrev pub invariant-loop-k : goal.invariant-loop-k
-invariant-loop-k l = (l.k ≤ l.initial.table) × ((l.initial.table ≤ length l.file / 2) × (length l.table ≡ length l.file))
+invariant-loop-k l = (l.k ≤ l.count) × ((l.count ≤ length l.initial.table / 2) × (length l.table ≡ length l.initial.table))
 
 abbrev pub decreases-loop-k : goal.decreases-loop-k
-decreases-loop-k l = l.initial.table - l.k
+decreases-loop-k l = l.count - l.k

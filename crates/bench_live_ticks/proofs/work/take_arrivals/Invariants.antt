@@ -7,7 +7,7 @@ use Rattle.sizes.specs.Sizes.{most_arrivals}
 use Rattle.bench_live_ticks.proofs.work.take_arrivals.Given as goal
 
 abbrev pub invariant-loop-k : goal.invariant-loop-k
-invariant-loop-k l = (l.k ≤ l.initial.d) × ((l.initial.d ≤ most_arrivals) × Within l.d)
+invariant-loop-k l = (l.k ≤ l.count) × ((l.count ≤ most_arrivals) × Within l.d)
 
 abbrev pub decreases-loop-k : goal.decreases-loop-k
-decreases-loop-k l = l.initial.d - l.k
+decreases-loop-k l = l.count - l.k

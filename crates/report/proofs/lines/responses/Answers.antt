@@ -14,8 +14,8 @@ shown p r = added (bytes " longest " ++ bytes_of (longest_field r)) (added (byte
 
 pub returns-in-Absent : goal.returns-in-Absent
 returns-in-Absent c =
-    c.add.ensures ∙ sym (added_both _ _ _) ∙ ap (shown _) (sym c.enum_told-1.given.1)
+    c.add.ensures ∙ sym (added_both _ _ _) ∙ ap (shown _) (sym c.in-Absent.is)
 
 pub returns-in-Over : goal.returns-in-Over
 returns-in-Over c =
-    c.two.ensures ∙ ap (shown _) (sym c.response-1.given.1)
+    c.two.ensures ∙ ap (shown _) (sym c.in-Over.is)

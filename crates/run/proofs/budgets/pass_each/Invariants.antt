@@ -19,7 +19,7 @@ use Rattle.run.proofs.budgets.pass_each.Given as goal
 
 abbrev pub invariant-loop-k : goal.invariant-loop-k
 invariant-loop-k l = 
-    Passed (segment_book l.i l.initial.current) l.initial.at.tick l.s l.n l.initial.list (segment_book l.list l.current) l.at l.deadline l.waiting l.k
+    Passed (segment_book l.initial.list l.initial.current) l.initial.at.tick l.i l.s l.n (segment_book l.list l.current) l.at l.deadline l.waiting l.k
 
 abbrev pub decreases-loop-k : goal.decreases-loop-k
-decreases-loop-k l = l.initial.list - l.k
+decreases-loop-k l = l.n - l.k

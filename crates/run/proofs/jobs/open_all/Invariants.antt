@@ -11,7 +11,7 @@ use Rattle.sizes.specs.Sizes.{open_job}
 use Rattle.run.proofs.jobs.open_all.Given as goal
 
 abbrev pub invariant-loop-k : goal.invariant-loop-k
-invariant-loop-k l = (l.k ≤ l.initial.finishes) × (l.finishes ≡ finish_list l.k (λ j. is_open) l.m)
+invariant-loop-k l = (l.k ≤ l.m) × (l.finishes ≡ finish_list l.k (λ j. is_open) l.initial.finishes)
 
 abbrev pub decreases-loop-k : goal.decreases-loop-k
-decreases-loop-k l = l.initial.finishes - l.k
+decreases-loop-k l = l.m - l.k

@@ -23,7 +23,7 @@ use Rattle.run.proofs.travel.to_moment.Given as goal
 
 abbrev pub invariant-loop-next : goal.invariant-loop-next
 invariant-loop-next l = 
-    Taking (work l.file) l.until.tick (here l.initial.d.tick l.initial.j l.t) (here l.initial.d.tick l.j l.d) (tree_of l.leaves l.keys) l.next.tick l.root
+    Taking (work l.file) l.until.tick (here l.t.tick l.initial.j l.initial.d) (here l.t.tick l.j l.d) (tree_of l.leaves l.keys) l.next.tick l.root
 
 abbrev pub decreases-loop-next : goal.decreases-loop-next
 decreases-loop-next l = 
@@ -31,12 +31,12 @@ decreases-loop-next l =
 
 abbrev pub invariant-loop-t : goal.invariant-loop-t
 invariant-loop-t l = 
-    OnTheWay (lent_in (work l.file) l.initial.t.tick l.initial.c l.until l.leaves) (here l.t.tick l.j l.d)
-    (book (turn_book (tree_of l.initial.list l.keys) l.postponed l.interrupted (segment_book l.list l.c)) (job_book l.job l.left l.finishes))
-    l.behind.tick
+    OnTheWay (lent_in (work l.file) l.initial.t.tick l.initial.c l.initial.list l.initial.finishes) (here l.t.tick l.j l.d)
+    (book (turn_book (tree_of l.leaves l.keys) l.postponed l.interrupted (segment_book l.list l.c)) (job_book l.job l.left l.finishes))
+    l.until.tick
     l.next.tick
     l.root
 
 abbrev pub decreases-loop-t : goal.decreases-loop-t
 decreases-loop-t l = 
-    l.behind.tick - l.t.tick
+    l.until.tick - l.t.tick

@@ -4,7 +4,7 @@ use Rattle.books.proofs.Tree.Climb.{Climb, Below, one_up, root_reached, climb_go
 use Rattle.run.proofs.tree.climb.Given as goal
 
 abbrev pub invariant-loop-above : goal.invariant-loop-above
-invariant-loop-above l = Climb l.from l.leaves l.tree l.at l.least × Below l.at l.above
+invariant-loop-above l = Climb l.leaves l.initial.tree l.tree l.at l.least × Below l.at l.above
 
 abbrev pub decreases-loop-above : goal.decreases-loop-above
 decreases-loop-above l = l.above

@@ -5,13 +5,13 @@ use Rattle.demand_3.proofs.CourseLaws.{under_nobody}
 use Rattle.test_in_time.proofs.lent.with.Goals as goal
 
 pub returns-then-counts : goal.returns-then-counts
-returns-then-counts c = rw c.answer-1.given.1 rw (sym c.counts.ensures ∙ c.if-counts.true)
+returns-then-counts c = rw c.in-Ran.is rw (sym c.counts.ensures ∙ c.if-counts.true)
 
 pub returns-in-Idle : goal.returns-in-Idle
-returns-in-Idle c = rw c.enum_told-1.given.1 rw (under_nobody _ _) rw add-zero
+returns-in-Idle c = rw c.in-Idle.is rw (under_nobody _ _) rw add-zero
 
 pub returns-else-counts : goal.returns-else-counts
-returns-else-counts c = rw c.answer-1.given.1 rw (sym c.counts.ensures ∙ c.if-counts.false) rw add-zero
+returns-else-counts c = rw c.in-Ran.is rw (sym c.counts.ensures ∙ c.if-counts.false) rw add-zero
 
 pub returns-in-Refused : goal.returns-in-Refused
-returns-in-Refused c = rw c.enum_told-in-Refused-1.given.1 rw (under_nobody _ _) rw add-zero
+returns-in-Refused c = rw c.in-Refused.is rw (under_nobody _ _) rw add-zero

@@ -5,7 +5,7 @@ use Rattle.test_in_time.proofs.live.open.Goals as goal
 pub moves-requires : goal.moves-requires
 moves-requires c =
     let opened = c.open_table-opened in
-    live_opened _ _ opened.result opened.ensures.0 c.enum_told-1.given.1
+    live_opened _ _ opened.result opened.ensures.0 c.in-Accepted.is
 
 pub lines-requires : goal.lines-requires
 lines-requires c = moves-requires c.?before κs

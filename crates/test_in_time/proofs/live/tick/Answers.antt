@@ -7,7 +7,7 @@ tick-t-requires c = c.requires.standing.within
 
 pub left-requires : goal.left-requires
 left-requires c =
-    (live_demand c.requires).ticks_in_time _ c.tick-t.ensures.result_value _ _ _ c.answer-1.given.1
+    (live_demand c.requires).ticks_in_time _ c.tick-t.ensures.result_value _ _ _ c.in-Ran.is
 
 pub returns-in-Ran : goal.returns-in-Ran
 returns-in-Ran c =

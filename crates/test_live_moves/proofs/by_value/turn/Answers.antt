@@ -7,9 +7,9 @@ use Rattle.test_live_moves.proofs.by_value.turn.Goals as goal
 pub returns-in-Tick : goal.returns-in-Tick
 returns-in-Tick c =
     let made = c.tick-t.ensures in
-    rw c.m-1.given.1 (ap (λ (m : Answered Turn). m.dispatcher) made.0, made.1)
+    rw c.in-Tick.is (ap (λ (m : Answered Turn). m.dispatcher) made.0, made.1)
 
 pub returns-in-Arrival : goal.returns-in-Arrival
 returns-in-Arrival c =
     let made = c.arrival-a.ensures in
-    rw c.m-in-Arrival-1.given.1 (ap (λ (m : Answered (Unit {0})). m.dispatcher) made.0, made.1)
+    rw c.in-Arrival.is (ap (λ (m : Answered (Unit {0})). m.dispatcher) made.0, made.1)

@@ -6,7 +6,7 @@ use native.Mathlib.Omega.{arith}
 use Rattle.test_work_files.proofs.case.lay.Given as goal
 
 abbrev pub invariant-loop-k : goal.invariant-loop-k
-invariant-loop-k l = length l.file ≡ length l.words
+invariant-loop-k l = length l.file ≡ length l.initial.file
 
 abbrev pub decreases-loop-k : goal.decreases-loop-k
-decreases-loop-k l = length l.words - l.k
+decreases-loop-k l = length l.initial.file - l.k
