@@ -6,4 +6,4 @@ use Rattle.booking.specs.Share.{booked}
 use Rattle.booking.proofs.line.Goals as goal
 
 pub returns : goal.returns
-returns c = sym (get_or-eq_default c.args.t1 (booked 0 0) (omega (arith, c.if-k-lt-MOST_SERVERS.false)))
+returns c = sym (get_or-eq_default c.args.bookings (booked 0 0) (omega (arith, c.if-k-lt-MOST_SERVERS.false)))

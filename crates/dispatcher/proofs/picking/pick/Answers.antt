@@ -70,7 +70,7 @@ overflow_add-i c = omega (arith, c.requires.count)
 
 pub loop-i-preserved : goal.loop-i-preserved
 loop-i-preserved c =
-    let d = c.args.t1 in
+    let d = c.args.d in
     let ok = c.requires in
     let turn = c.loop-i in
     let here = c.loop-i-test.true in
@@ -86,4 +86,4 @@ loop-i-preserved c =
     )
 
 pub returns : goal.returns
-returns c = ended c.args.t1 _ _ _ c.loop-i.invariant.1 (omega (arith, c.loop-i-test.false, c.loop-i.invariant.0))
+returns c = ended c.args.d _ _ _ c.loop-i.invariant.1 (omega (arith, c.loop-i-test.false, c.loop-i.invariant.0))
