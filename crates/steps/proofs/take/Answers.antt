@@ -11,10 +11,11 @@ pub returns-then-is_too_much : goal.returns-then-is_too_much
 returns-then-is_too_much c = sym (arrival_too_much _ _ _ (ltb-true _ _ (sym c.is_too_much.ensures ∙ c.if-is_too_much.true)))
 
 pub arrive-requires : goal.arrive-requires
-arrive-requires c = (
-  not_beyond _ _ (sym c.is_beyond.ensures ∙ c.if-is_beyond.false),
-  ltb-false _ _ (sym c.is_too_much.ensures ∙ c.if-is_too_much.false),
-)
+arrive-requires c =
+    record {
+      fits = not_beyond _ _ (sym c.is_beyond.ensures ∙ c.if-is_beyond.false);
+      ticks_bound = ltb-false _ _ (sym c.is_too_much.ensures ∙ c.if-is_too_much.false);
+    }
 
 pub returns : goal.returns
 returns c =
