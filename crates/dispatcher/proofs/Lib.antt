@@ -3,4 +3,5 @@ pub mod MoveOnPaperLaws
 pub mod PickLaws
 pub mod Promises
 pub mod RefusedLaws
+pub mod SofarLaws
 pub mod StartLaws

@@ -1,68 +1,82 @@
 -- `dispatcher::arrival` meets its promise: its three ways are the three cases of the definition, and what the definition gives is
 -- within the ranges.
-use Prim.Native.Nat.{◌+◌, ◌≤◌, ◌<◌}
-use mathlib.Core.Bool.{false}
+use Prim.Native.Nat.{ℕ, ◌+◌, ◌-◌, ◌≤◌, ◌<◌}
+use mathlib.Core.Bool.{Bool, false}
 use mathlib.Core.Path.{◌≡◌, sym, ◌∙◌}
 use native.Mathlib.Omega.{arith}
 use Rattle.arrival.specs.Arrival.{faulty_arrival}
+use Rattle.clock.specs.declared.Length.{Length}
+use Rattle.server.specs.declared.Server.{Server}
+use Rattle.dispatcher.specs.declared.Dispatcher.{Dispatcher}
+use Rattle.dispatcher.specs.Pick.{server_at}
+use Rattle.dispatcher.specs.Within.{Within}
 use Rattle.arrival.proofs.ArrivalLaws.{sound}
 use Rattle.server.specs.Ranges.{Ranged}
 use Rattle.sizes.specs.Sizes.{most_servers, most_waiting}
 use Rattle.steps.proofs.StepLaws.{arrival_ranged}
 use Rattle.dispatcher.proofs.MoveLaws.{arrival_faulty, arrival_too_much, arrival_whole, arrival_within, and_within}
 use Rattle.dispatcher.proofs.arrival.Goals as goal
-use Rattle.dispatcher.proofs.arrival.Goals.{After-server_at-s, Else-is_faulty, Else-s-cost}
 
--- past the first test the arrival has no fault, so that its server is one of the 64
-no_fault : (c : Else-is_faulty) → faulty_arrival c.args.d.count c.args.server c.args.cost ≡ false
-no_fault c = sym c.is_faulty.ensures ∙ c.if-is_faulty.false
+-- past the first test the arrival has no fault, so that its server is one of the 64, and within its ranges
+module _ (d : Dispatcher) (ok : Within d) (i : ℕ) (cost : Length) {test : Bool} (is : test ≡ faulty_arrival d.count i cost) (off : test ≡ false) where
+  no_fault : faulty_arrival d.count i cost ≡ false
+  no_fault = sym is ∙ off
 
-known : (c : Else-is_faulty) → c.args.server < c.args.d.count
-known c = let a = c.args in (sound a.d.count a.server a.cost (no_fault c)).known
+  known : i < d.count
+  known = (sound d.count i cost no_fault).known
 
-below : (c : Else-is_faulty) → c.args.server < most_servers
-below c = omega (arith, known c, c.requires.count)
+  below : i < most_servers
+  below = omega (arith, known, ok.count)
 
--- and the server that is read is within its ranges
-ranged : (c : After-server_at-s) → Ranged c.args.d.clock c.server_at-s.result
-ranged c = rw c.server_at-s.ensures (c.requires.servers _ (known c.?before))
+  module _ (s : Server) (read : s ≡ server_at d i) where
+    ranged : Ranged d.clock s
+    ranged = rw read (ok.servers _ known)
+
+    -- past the second the work fits
+    fits : cost.ticks ≤ most_waiting - s.waiting.ticks → s.waiting.ticks + cost.ticks ≤ most_waiting
+    fits room = omega (arith, room, ranged.waiting)
 
 pub returns-then-is_faulty : goal.returns-then-is_faulty
 returns-then-is_faulty c =
-    and_within (arrival_within c.requires _ _)
-    (sym (arrival_faulty _ _ _ (sym c.is_faulty.ensures ∙ c.if-is_faulty.true)))
+    let both =
+        and_within (arrival_within c.requires _ _)
+        (sym (arrival_faulty _ _ _ (sym c.is_faulty.ensures ∙ c.if-is_faulty.true))) in
+    record { result_value = both.0; within = both.1 }
 
 pub server_at-s-requires : goal.server_at-s-requires
-server_at-s-requires c = below c
+server_at-s-requires c = below c.args.d c.requires c.args.server c.args.cost c.is_faulty.ensures c.if-is_faulty.false
 
 pub overflow_sub-s : goal.overflow_sub-s
-overflow_sub-s c = (ranged c.?before).waiting
+overflow_sub-s c =
+    (ranged c.args.d c.requires c.args.server c.args.cost c.is_faulty.ensures c.if-is_faulty.false _ c.server_at-s.ensures).waiting
 
 pub returns-then-s-cost : goal.returns-then-s-cost
 returns-then-s-cost c =
     let a = c.args in
-    and_within (arrival_within c.requires _ _)
-    (sym
-    (arrival_too_much a.d a.server a.cost
-    (no_fault c.?before)
-    (rw (sym c.server_at-s.ensures) (omega (arith, c.if-s-cost.true, (ranged read).waiting)))))
-
--- past the second the work fits
-fits : (c : Else-s-cost)
-    → c.server_at-s.result.waiting.ticks + c.args.cost.ticks
-    ≤ most_waiting
-fits c = omega (arith, c.if-s-cost.false, (ranged c.?before).waiting)
+    let fault = no_fault a.d c.requires a.server a.cost c.is_faulty.ensures c.if-is_faulty.false in
+    let here = ranged a.d c.requires a.server a.cost c.is_faulty.ensures c.if-is_faulty.false _ c.server_at-s.ensures in
+    let both =
+        and_within (arrival_within c.requires _ _)
+        (sym
+        (arrival_too_much a.d a.server a.cost fault
+        (rw (sym c.server_at-s.ensures) (omega (arith, c.if-s-cost.true, here.waiting))))) in
+    record { result_value = both.0; within = both.1 }
 
 pub with_server-taken-requires : goal.with_server-taken-requires
-with_server-taken-requires c = below c.?before
+with_server-taken-requires c = below c.args.d c.requires c.args.server c.args.cost c.is_faulty.ensures c.if-is_faulty.false
 
 pub returns : goal.returns
 returns c =
     let a = c.args in
-    and_within (arrival_within c.requires _ _)
-    (rw (
-      c.with_server-taken.ensures,
-      c.take.ensures ∙ arrival_ranged (ranged read) c.requires.clock a.cost (fits past),
-      c.server_at-s.ensures,
-    )
-    (sym (arrival_whole a.d a.server a.cost (no_fault c.?before) (rw (sym c.server_at-s.ensures) (fits past)))))
+    let fault = no_fault a.d c.requires a.server a.cost c.is_faulty.ensures c.if-is_faulty.false in
+    let here = ranged a.d c.requires a.server a.cost c.is_faulty.ensures c.if-is_faulty.false _ c.server_at-s.ensures in
+    let room = fits a.d c.requires a.server a.cost c.is_faulty.ensures c.if-is_faulty.false _ c.server_at-s.ensures c.if-s-cost.false in
+    let both =
+        and_within (arrival_within c.requires _ _)
+        (rw (
+          c.with_server-taken.ensures,
+          c.take.ensures ∙ arrival_ranged here c.requires.clock a.cost room,
+          c.server_at-s.ensures,
+        )
+        (sym (arrival_whole a.d a.server a.cost fault (rw (sym c.server_at-s.ensures) room)))) in
+    record { result_value = both.0; within = both.1 }

@@ -13,16 +13,6 @@ use Rattle.dispatcher.specs.Pick.{server_at}
 use Rattle.dispatcher.proofs.PickLaws.{earliest_busy, earliest_charged}
 use Rattle.dispatcher.proofs.run.Goals as goal
 
--- the server works, has budget left, and is within its ranges
-works : (c : tie.Start) → (server_at c.args.d c.args.i).waiting.ticks ≡ 0 → ⊥
-works c = eqb-false _ _ (earliest_busy c.requires.within.1)
-
-charged : (c : tie.Start) → 1 ≤ (server_at c.args.d c.args.i).remaining.ticks
-charged c = earliest_charged c.requires.within.0 c.requires.within.1
-
-ranged : (c : tie.Start) → Ranged c.args.d.clock (server_at c.args.d c.args.i)
-ranged c = c.requires.within.0.servers _ c.requires.within.1.among
-
 -- one tick is left where one less is none
 last_left : (n : ℕ) → 1 ≤ n → eqb n 1 ≡ eqb (n - 1) 0
 last_left n h = go (ℕ_discrete n 1)
@@ -34,14 +24,16 @@ last_left n h = go (ℕ_discrete n 1)
 pub pass-requires : goal.pass-requires
 pass-requires c = rw c.with_server-served.ensures c.requires.tick_lt_clock_end
 
+-- the server works, has budget left, and is within its ranges
 pub returns : goal.returns
 unfolding ran
 returns c =
+    let pre = c.requires.within in
     c.pass.ensures
     ∙ rw (
       c.with_server-served.ensures,
       c.serve.ensures,
       c.server_at-s.ensures,
-      tick_ranged (ranged start) c.requires.within.0.clock (works start) (charged start),
-      last_left _ (charged start),
+      tick_ranged (pre.0.servers _ pre.1.among) pre.0.clock (eqb-false _ _ (earliest_busy pre.1)) (earliest_charged pre.0 pre.1),
+      last_left _ (earliest_charged pre.0 pre.1),
     )

@@ -1,63 +1,13 @@
 -- `dispatcher::picking::pick` meets its promise: after i turns `best` is the earliest of the first i servers, or none of them works.
-use Prim.Native.Nat.{ℕ, suc, ◌-◌, ◌≤◌, ◌<◌}
-use mathlib.Core.Bool.{Bool, true, false, cond}
-use mathlib.Core.Logic.{⊎_elim}
-use mathlib.Core.Path.{◌≡◌, refl, sym, ◌∙◌, subst}
+use Rattle.std.proofs.Common.{refl, arith}
 use native.Mathlib.Nat.{not-suc-le-zero}
 use native.Mathlib.Numerals.{add-one}
-use native.Mathlib.Omega.{arith}
-use Rattle.clock.specs.declared.Moment.{Moment}
-use Rattle.clock.specs.Clock.{last_tick, moment}
-use Rattle.counting.proofs.TestLaws.{not_both}
-use Rattle.server.specs.declared.Server.{Server}
-use Rattle.server.proofs.RangeLaws.{deadline_fits}
-use Rattle.server.specs.Server.{passed_over}
-use Rattle.dispatcher.specs.declared.Dispatcher.{Dispatcher}
-use Rattle.dispatcher.specs.Pick.{server_at, picked, Earliest, NoneWorks}
-use Rattle.dispatcher.proofs.PickLaws.{none_more, earliest_first, earliest_stays, earliest_moves, earliest_picked, none_picked}
-use Rattle.dispatcher.specs.Within.{Within}
+use Rattle.dispatcher.proofs.SofarLaws.{Sofar, nobody, somebody, takes_over, stays, ended}
 use Rattle.dispatcher.proofs.picking.pick.Goals as goal
-
--- what the loop knows of the first k servers
-data Sofar (d : Dispatcher) (k best least : ℕ) : Type 0 where
-  nobody : best ≡ d.count → least ≡ last_tick → NoneWorks d k → Sofar d k best least
-  somebody : Earliest d k best → least ≡ (server_at d best).deadline.tick → Sofar d k best least
-
--- what `due` answers
-abbrev due_of : Server → Moment
-due_of s = cond (passed_over s) (moment last_tick) s.deadline
-
--- one more server, by whether it is due before the least
-module _ (d : Dispatcher) (ok : Within d) (k : ℕ) (h : k < d.count) where
-  -- every deadline is before the last moment
-  before_last : (j : ℕ) → j < d.count → (server_at d j).deadline.tick < last_tick
-  before_last j b = let r = ok.servers j b in omega (arith, deadline_fits r ok.clock, r.budget, r.fits)
-
-  takes_over : (best least : ℕ) → Sofar d k best least → (due_of (server_at d k)).tick < least → Sofar d (suc k) k (due_of (server_at d k)).tick
-  takes_over best least s t = go (passed_over (server_at d k)) refl s
-    where
-      go : (b : Bool) → passed_over (server_at d k) ≡ b → Sofar d k best least → Sofar d (suc k) k (due_of (server_at d k)).tick
-      go true e (nobody q l none) = let no : ⊥ = omega (arith, rw e at t) in absurd no
-      go true e (somebody f l) = let no : ⊥ = omega (arith, rw e at t, before_last best (omega (arith, f.among))) in absurd no
-      go false e (nobody q l none) = somebody (earliest_first d k none e) (rw e)
-      go false e (somebody f l) = somebody (earliest_moves d k best f e (omega (arith, rw e at t))) (rw e)
-
-  stays : (best least : ℕ) → Sofar d k best least → least ≤ (due_of (server_at d k)).tick → Sofar d (suc k) best least
-  stays best least s t = go (passed_over (server_at d k)) refl s
-    where
-      go : (b : Bool) → passed_over (server_at d k) ≡ b → Sofar d k best least → Sofar d (suc k) best least
-      go true e (nobody q l none) = nobody q l (none_more d k none e)
-      go true e (somebody f l) = somebody (earliest_stays d k best f (λ w. not_both e w)) l
-      go false e (nobody q l none) = let no : ⊥ = omega (arith, rw e at t, before_last k h) in absurd no
-      go false e (somebody f l) = somebody (earliest_stays d k best f (λ w. omega (arith, rw e at t))) l
-
--- after all of them
-ended : (d : Dispatcher) (k best least : ℕ) → Sofar d k best least → k ≡ d.count → best ≡ picked d
-ended d k best least (nobody q l none) e = q ∙ sym (none_picked d (subst (NoneWorks d) e none))
-ended d k best least (somebody f l) e = sym (earliest_picked d best (subst (λ (n : ℕ). Earliest d n best) e f))
+use Rattle.dispatcher.proofs.picking.pick.Goals.{then-at-least, else-at-least}
 
 pub loop-i-init : goal.loop-i-init
-loop-i-init c = (omega arith, nobody refl refl (λ j b. absurd (not-suc-le-zero b)))
+loop-i-init c = record { fits = omega arith; so_far = nobody refl refl (λ j b. absurd (not-suc-le-zero b)) }
 
 pub offset_bounds-d-i : goal.offset_bounds-d-i
 offset_bounds-d-i c = omega (arith, c.requires.count)
@@ -71,19 +21,22 @@ overflow_add-i c = omega (arith, c.requires.count)
 pub loop-i-preserved : goal.loop-i-preserved
 loop-i-preserved c =
     let d = c.args.d in
-    let ok = c.requires in
     let turn = c.loop-i in
     let here = c.loop-i-test.true in
-    let due = c.due-at.ensures in (
-      omega arith,
-      rw add-one
-          (⊎_elim
-          (λ w. rw (w.1, w.2, due)
-          (takes_over d ok turn.i here turn.best turn.least.tick turn.invariant.1 (rw due at w.0.taken)))
-          (λ w. rw (w.1, w.2)
-          (stays d ok turn.i here turn.best turn.least.tick turn.invariant.1 (rw due at w.0.left)))
-          c.if-at-least.branch),
-    )
+    let due = c.due-at.ensures in
+    record {
+      fits = omega arith;
+      so_far =
+          rw add-one
+          (elim c.if-at-least.branch [
+          then-at-least w ↦
+              rw (w.best-is, w.least-is, due)
+              (takes_over d c.requires turn.i here turn.best turn.least.tick turn.invariant.so_far (rw due at w.if-at-least.true))
+          | else-at-least w ↦
+              rw (w.best-is, w.least-is)
+              (stays d c.requires turn.i here turn.best turn.least.tick turn.invariant.so_far (rw due at w.if-at-least.false)) ]);
+    }
 
 pub returns : goal.returns
-returns c = ended c.args.d _ _ _ c.loop-i.invariant.1 (omega (arith, c.loop-i-test.false, c.loop-i.invariant.0))
+returns c =
+    ended c.args.d _ _ _ c.loop-i.invariant.so_far (omega (arith, c.loop-i-test.false, c.loop-i.invariant.fits))
