@@ -21,7 +21,7 @@ returns-then-faulty c =
     (omega arith)
     (sym c.is_faulty-faulty.ensures ∙ c.if-faulty.true))
 
-no_fault : (c : Else-faulty
+no_fault : (c : Else-faulty)
     → faulty_arrival c.args.h.servers.count
     c.arrival_of-a.result.server
     c.arrival_of-a.result.cost
@@ -56,7 +56,7 @@ loop-k-preserved c = (
 )
 
 -- after the loop all have passed
-all_passed : (c : After-loop-k
+all_passed : (c : After-loop-k)
     → Passed (work_under c.args.h c.args.file.now)
     c.args.h.arrivals.count
     c.loop-k.before

@@ -8,10 +8,12 @@ use Rattle.booking.specs.Share.{booked}
 use Rattle.counting.proofs.PlacesLaws.{filled, filled_none, filled_more, filled_whole}
 use Rattle.counting.specs.Places.{places}
 use Rattle.sizes.specs.Sizes.{most_servers}
-use Rattle.opening.specs.Opening.{listed}
+use Rattle.opening.specs.Opening.{listed, out_of_range}
+use Rattle.clock.specs.declared.Length.{Length}
+use mathlib.Core.Bool.{false}
+use mathlib.Core.List.{List}
 use Rattle.opening.proofs.OpeningLaws.{in_range, listed_behind}
 use Rattle.opening.proofs.sheet_of.Goals as goal
-use Rattle.opening.proofs.sheet_of.Goals.{After-booking_at}
 
 pub loop-k-init : goal.loop-k-init
 loop-k-init c = (omega arith, filled_none most_servers _ (booked 0 0))
@@ -20,16 +22,16 @@ pub booking_at-requires : goal.booking_at-requires
 booking_at-requires c = omega (arith, c.loop-k-test.true)
 
 -- there are as many lines as a table in range has bookings
-few : (c : After-booking_at → length c.args.table.now / 2 ≤ most_servers
-few c = (in_range _ c.args.frame c.requires).few
+few : (l : List ℕ) (frame : Length) → out_of_range (length l) frame ≡ false → length l / 2 ≤ most_servers
+few l frame sound = (in_range _ frame sound).few
 
 pub bounds-bookings-k : goal.bounds-bookings-k
-bounds-bookings-k c = omega (arith, few c)
+bounds-bookings-k c = omega (arith, few c.args.table.now c.args.frame c.requires)
 
 pub loop-k-preserved : goal.loop-k-preserved
 loop-k-preserved c = (
   omega arith,
-  rw (add-one, c.loop-k.invariant.1, c.booking_at.ensures) (filled_more most_servers _ (booked 0 0) _ (omega (arith, few c))),
+  rw (add-one, c.loop-k.invariant.1, c.booking_at.ensures) (filled_more most_servers _ (booked 0 0) _ (omega (arith, few c.args.table.now c.args.frame c.requires))),
 )
 
 pub returns : goal.returns

@@ -18,7 +18,7 @@ pub loop-k-init : goal.loop-k-init
 loop-k-init c = (omega arith, each_none _ _)
 
 -- at a turn: job k is one of the file's, which has few
-here : (c : In-loop-k → c.loop-k.k < 4_096
+here : (c : In-loop-k) → c.loop-k.k < 4_096
 here c = omega (arith, c.loop-k-test.true, arrivals_read _ c.header_of-h.ensures, c.requires.accepted.fit.arrivals)
 
 pub offset_bounds-finishes-k : goal.offset_bounds-finishes-k

@@ -29,16 +29,16 @@ arrival_of-a-requires c =
     (c.requires.accepted, omega (arith, c.loop-k-test.true, c.loop-k.invariant.1))
 
 -- The arrival that was read is one of the file's, so its server has a place.
-here : (c : After-arrival_of-a
+here : (c : After-arrival_of-a)
     → c.loop-k.k - 1 < (work c.args.file.now).arrivals
 here c = omega (arith, c.loop-k-test.true, c.loop-k.invariant.1)
 
-server_is : (c : After-arrival_of-a
+server_is : (c : After-arrival_of-a)
     → c.arrival_of-a.result.server
     ≡ ((work c.args.file.now).arrival (c.loop-k.k - 1)).server
 server_is c = ap (λ (a : Arrival). a.server) c.arrival_of-a.ensures
 
-known : (c : After-arrival_of-a
+known : (c : After-arrival_of-a)
     → ((work c.args.file.now).arrival (c.loop-k.k - 1)).server < most_servers
 known c =
     let fit = c.requires.accepted.fit in
@@ -50,7 +50,7 @@ offset_bounds-first-i c = omega (arith, known c, server_is c)
 pub bounds-first-i : goal.bounds-first-i
 bounds-first-i c = omega (arith, known c, server_is c)
 
-few : (c : After-arrival_of-a → c.loop-k.k - 1 < most_arrivals
+few : (c : After-arrival_of-a) → c.loop-k.k - 1 < most_arrivals
 few c = omega (arith, here c, c.requires.accepted.fit.arrivals)
 
 pub offset_bounds-behind-k : goal.offset_bounds-behind-k

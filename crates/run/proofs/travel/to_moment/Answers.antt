@@ -45,7 +45,7 @@ pub loop-next-init : goal.loop-next-init
 loop-next-init c = taking_none c.loop-t.invariant
 
 -- An arrival that is due, and as it was read.
-due : (c : In-loop-next → c.loop-next.j < (its c.?before).arrivals
+due : (c : In-loop-next) → c.loop-next.j < (its c.?before).arrivals
 due c = due_here c.loop-next.invariant c.loop-t-test.true c.loop-next-test.true
 
 pub arrival_of-a-requires : goal.arrival_of-a-requires
@@ -128,7 +128,7 @@ loop-t-preserved-then-root c =
     idled_on (fit (began a)) (going a) (sym x.root_is ∙ c.if-root.true) (ahead a) c.idle-c.ensures x
 
 -- The server that is picked.
-pick : (c : Else-root → let d = (at c.?before).dispatcher in Earliest d d.count (c.loop-next.root % 64)
+pick : (c : Else-root) → let d = (at c.?before).dispatcher in Earliest d d.count (c.loop-next.root % 64)
 pick c = root_pick (fit (began a)) (going a) c.loop-next.root c.loop-next.invariant.root_is c.if-root.false
 
 pub left_of-rest-requires : goal.left_of-rest-requires

@@ -26,7 +26,7 @@ each c j = got_of c.args.w (segment_in c.args.list.now j)
 abbrev start : After-got_of-sum → tie.Start invariant-loop decreases-loop
 start c = c.?before
 
-one : (c : After-got_of-sum → c.got_of-sum.result ≡ each (start c) c.loop-k.k
+one : (c : After-got_of-sum) → c.got_of-sum.result ≡ each (start c) c.loop-k.k
 one c = c.got_of-sum.ensures ∙ ap (got_of (start c).args.w) c.segment_at-s.ensures
 
 pub overflow_add-sum : goal.overflow_add-sum

@@ -23,10 +23,10 @@ unfolding every
 loop-k-init c = (omega arith, refl)
 
 -- at a turn: job k is one of the file's, which has few, and has its place in the finish list
-here : (c : In-loop-k → c.loop-k.k < (work c.args.file.now).arrivals
+here : (c : In-loop-k) → c.loop-k.k < (work c.args.file.now).arrivals
 here c = omega (arith, c.loop-k-test.true, arrivals_read _ c.header_of-h.ensures)
 
-few : (c : In-loop-k → c.loop-k.k < 4_096
+few : (c : In-loop-k) → c.loop-k.k < 4_096
 few c = omega (arith, here c, c.requires.arrivals)
 
 pub offset_bounds-finishes-k : goal.offset_bounds-finishes-k
@@ -37,7 +37,7 @@ bounds-finishes-k c =
     omega (arith, here c.?before, c.requires.finishes)
 
 -- what is answered of job k
-one : (c : After-is_done
+one : (c : After-is_done)
     → c.is_done.result ≡ done c.?before c.loop-k.k
 one c =
     c.is_done.ensures
