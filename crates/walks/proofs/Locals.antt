@@ -2,11 +2,11 @@
 use Prim.Native.Nat.{ℕ, zero, suc}
 use mathlib.Core.List.{List, [], ◌∷◌, ◌++◌}
 use seplogic.Ra.Ura.{Ura}
-use seplogic.Ra.TreeShare.{full_share}
 use mathlib.Core.Path.{◌≡◌}
 use mir.Syntax.{Ty, Local, local, ty_unit, place, copy}
 use mir.Val.{Val}
 use base.Fml.{fat, froom, fdies}
+use base.Fraction.{full_share}
 use prog.Wp.{Env, spot_of}
 use types.Logic.{Logic}
 use types.Kit.{Item, ‵, nth, Goal, allocs, frees, Seq, Step, step, ◌$◌}
@@ -54,8 +54,9 @@ module _ {M : Type 1} {𝓤 : Ura M} {𝓛 : Logic 𝓤} {K : Type 0} where
 
   pub alloc_all : K → {Γ : List (Item 𝓤)} (ls : List Local) {Kt : Env 𝓤 H → Goal 𝓤 H}
       → ((bs : Blocks ls) → Seq K 𝓛 (stacked (placed ls bs) Γ) (Kt (placed ls bs))) → Seq K 𝓛 Γ (allocs ls Kt)
-  alloc_all t [] k = alloc0 t $ k tt
-  alloc_all t (local τ h ∷ ls) {Kt} k = alloc1 t (λ b. alloc_all t ls {Kt = λ E. Kt ((τ, b) ∷ E)} (λ bs. k (b, bs)))
+  alloc_all t {Γ = Γ} [] {Kt = Kt} k = alloc0 t $ k tt
+  alloc_all t {Γ = Γ} (local τ h ∷ ls) {Kt = Kt} k =
+      alloc1 t (λ b. alloc_all t {Γ = ‵ (froom τ b 0) ∷ ‵ (fdies τ b) ∷ Γ} ls {Kt = λ E. Kt ((τ, b) ∷ E)} (λ bs. k (b, bs)))
 
   module _ {Γ : List (Item 𝓤)} where
     -- a local as an operand, where entry n of the context has its value
