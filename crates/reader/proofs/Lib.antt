@@ -1,7 +1,3 @@
-mod Called
-mod Going
-mod Held
-mod Kind
-mod Taking
+pub mod InEveryModel
 pub mod Promises
 pub mod ReaderLaws

@@ -47,6 +47,7 @@ pub fn take_arrival<'a>(r: Reader<'a>) -> Arrival
 }
 
 // The server record that starts so many bytes behind the start of its block: the reader goes to the block, and on from there to the record.
+#[tactic(auto, using(crate::proofs::ReaderLaws::booking_at_sent))]
 pub fn booking_from(file: &[u8], block: usize, further: usize) -> Booking
     ensures { result ≡ booking_at file.now (block + further) }
 {
@@ -54,6 +55,7 @@ pub fn booking_from(file: &[u8], block: usize, further: usize) -> Booking
 }
 
 // The arrival record that starts so many bytes behind the start of its block, taken likewise.
+#[tactic(auto, using(crate::proofs::ReaderLaws::arrival_at_sent))]
 pub fn arrival_from(file: &[u8], block: usize, further: usize) -> Arrival
     ensures { result ≡ arrival_at file.now (block + further) }
 {
