@@ -168,8 +168,8 @@ module _ {H : Length} {t : Table} (some : 1 ≤ H.ticks) (admitted : Admitted H 
   pub after_covered : {d : Dispatcher} → Covered H t d → (moves : List Move) → Covered H t (after d moves)
   unfolding after
   after_covered ok [] = ok
-  after_covered ok (an_arrival j cost ∷ more) = after_covered (arrival_covered ok j cost) more
-  after_covered ok (a_tick ∷ more) = after_covered (tick_covered ok) more
+  after_covered {d} ok (an_arrival j cost ∷ more) = after_covered {d = (arrival d j cost).dispatcher} (arrival_covered ok j cost) more
+  after_covered {d} ok (a_tick ∷ more) = after_covered {d = (tick d).dispatcher} (tick_covered ok) more
 
   -- The deadline of a server with work is ahead: one that is held back rests till then, and what is left of a budget is to be had by then.
   pub deadline_ahead : {d : Dispatcher} → Covered H t d → (i : ℕ) → i < t.count → idle (server_at d i) ≡ false

@@ -77,10 +77,15 @@ module _ {H : Length} {t : Table} (admitted : Admitted H t) (b : Moment) where
       → got i b d moves * H.ticks ≤ can_get H b d i
   unfolding got
   got_paid ok i known [] = omega arith
-  got_paid ok i known (an_arrival j cost ∷ more) =
-      rw (under_nobody i b) (omega (arith, got_paid (arrival_standing ok j cost) i known more, arrival_pays ok j cost i known))
+  got_paid {d} ok i known (an_arrival j cost ∷ more) =
+      rw (under_nobody i b)
+      (omega (
+        arith,
+        got_paid {d = (arrival d j cost).dispatcher} (arrival_standing ok j cost) i known more,
+        arrival_pays ok j cost i known,
+      ))
   got_paid {d} ok i known (a_tick ∷ more) =
-      go (is_under i b (choice_of (tick d).answer)) (tick_pays ok i known) (got_paid (tick_standing ok) i known more)
+      go (is_under i b (choice_of (tick d).answer)) (tick_pays ok i known) (got_paid {d = (tick d).dispatcher} (tick_standing ok) i known more)
     where
       go : (u : Bool) → can_get H b (tick d).dispatcher i + cond u H.ticks 0 ≤ can_get H b d i
           → got i b (tick d).dispatcher more * H.ticks ≤ can_get H b (tick d).dispatcher i

@@ -70,8 +70,8 @@ module _ {t : Table} where
   pub after_standing : {d : Dispatcher} → Standing t d → (moves : List Move) → Standing t (after d moves)
   unfolding after
   after_standing ok [] = ok
-  after_standing ok (an_arrival j cost ∷ more) = after_standing (arrival_standing ok j cost) more
-  after_standing ok (a_tick ∷ more) = after_standing (tick_standing ok) more
+  after_standing {d} ok (an_arrival j cost ∷ more) = after_standing {d = (arrival d j cost).dispatcher} (arrival_standing ok j cost) more
+  after_standing {d} ok (a_tick ∷ more) = after_standing {d = (tick d).dispatcher} (tick_standing ok) more
 
 -- the start of an admitted table
 pub start_standing : (H : Length) (t : Table) → 1 ≤ H.ticks → H.ticks ≤ most_frame → t.count ≤ most_servers → Admitted H t
