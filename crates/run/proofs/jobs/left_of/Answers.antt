@@ -15,7 +15,9 @@ returns-then-rest-gt0 c =
     }
 
 pub arrival_of-a-requires : goal.arrival_of-a-requires
-arrival_of-a-requires c = let pre = c.requires in (pre.0, pre.1.another (omega (arith, c.if-rest-gt0.false)))
+arrival_of-a-requires c =
+    let pre = c.requires in
+    record { accepted = pre.accepted; k_bound = pre.serves.another (omega (arith, c.if-rest-gt0.false)) }
 
 pub returns : goal.returns
 returns c =

@@ -10,7 +10,8 @@ pub plan-p-requires : goal.plan-p-requires
 plan-p-requires c = c.requires.plans
 
 pub pass_through-current-requires : goal.pass_through-current-requires
-pass_through-current-requires c = (planned_budgets c.requires c.plan-p.ensures, c.requires.bounded)
+pass_through-current-requires c =
+    record { budgets_from = planned_budgets c.requires c.plan-p.ensures; bounded = c.requires.bounded }
 
 pub interrupt-requires : goal.interrupt-requires
 interrupt-requires c = omega (arith, c.requires.few_interrupted)

@@ -1,5 +1,5 @@
 -- `run::spell::pass_through` meets its promise: the turn at t leaves the segments within what the budgets that follow ask for.
-use Prim.Native.Nat.{◌+◌}
+use Prim.Native.Nat.{ℕ, ◌+◌}
 use mathlib.Core.Path.{◌≡◌, ◌∙◌, sym, ap, ap₂, subst⁻¹}
 use native.Mathlib.Omega.{arith}
 use Rattle.books.proofs.Book.{SegmentBook, segment_book, with_waits}
@@ -7,11 +7,11 @@ use Rattle.books.proofs.Budgets.Budgets.{turned_on, BudgetsFrom}
 use Rattle.books.proofs.Spell.SpellLeaves.{after_ticks}
 use Rattle.books.proofs.Stretches.Turns.{Bounded, bounded_end, turned_bounded}
 use Rattle.clock.proofs.ClockLaws.{up_to_last_whole}
-use Rattle.clock.specs.Clock.{moment}
+use Rattle.clock.specs.Clock.{later, moment, up_to_last}
 use Rattle.clock.specs.declared.Moment.{Moment}
+use Rattle.books.specs.declared.PlannedSpell.{PlannedSpell}
 use Rattle.sizes.specs.Sizes.{clock_end}
 use Rattle.run.proofs.spell.pass_through.Goals as goal
-use Rattle.run.proofs.spell.pass_through.Goals.{After-later}
 
 pub turn_to-current-requires : goal.turn_to-current-requires
 turn_to-current-requires c =
@@ -27,20 +27,23 @@ returns-then-budgets-eq0 c =
     (sym c.if-budgets-eq0.true)
 
 -- where the budgets begin
-then : (c : After-later) → let a = c.args in c.later.result ≡ moment (a.t.tick + a.p.ticks.ticks)
-then c =
-    c.later.ensures ∙ up_to_last_whole (moment (c.args.t.tick + c.args.p.ticks.ticks)) (omega (arith, c.requires.budgets_from.time))
+begins : (t : Moment) {i : ℕ} (p : PlannedSpell) {from : Moment} → BudgetsFrom (t.tick + p.ticks.ticks) i p.after p.budgets
+    → from ≡ up_to_last (later t p.ticks) → from ≡ moment (t.tick + p.ticks.ticks)
+begins t p may goes = goes ∙ up_to_last_whole (moment (t.tick + p.ticks.ticks)) (omega (arith, may.time))
 
 pub pass-requires : goal.pass-requires
 pass-requires c =
     let a = c.args in
-    let by = subst⁻¹ (Bounded (clock_end + 1) a.t.tick) c.turn_to-current.ensures (turned_bounded a.i a.deadline c.requires.bounded) in (
-      subst⁻¹ (λ (m : Moment). BudgetsFrom m.tick a.i a.p.after a.p.budgets) (then c) c.requires.budgets_from,
-      record {
-        from = omega (arith, by.from, ap (λ (m : Moment). m.tick) (then c));
-        counted = by.counted;
-      },
-    )
+    let then = begins a.t a.p c.requires.budgets_from c.later.ensures in
+    let by = subst⁻¹ (Bounded (clock_end + 1) a.t.tick) c.turn_to-current.ensures (turned_bounded a.i a.deadline c.requires.bounded) in
+    record {
+      budgets_from = subst⁻¹ (λ (m : Moment). BudgetsFrom m.tick a.i a.p.after a.p.budgets) then c.requires.budgets_from;
+      bounded =
+          record {
+            from = omega (arith, by.from, ap (λ (m : Moment). m.tick) then);
+            counted = by.counted;
+          };
+    }
 
 pub returns : goal.returns
 returns c =
@@ -48,4 +51,4 @@ returns c =
     c.pass.ensures
     ∙ ap₂ (λ (x : SegmentBook) (m : Moment). turned_on (with_waits x a.p.after.waiting) m.tick a.i a.p.after a.p.budgets)
     c.turn_to-current.ensures
-    (then c.?before)
+    (begins a.t a.p c.requires.budgets_from c.later.ensures)

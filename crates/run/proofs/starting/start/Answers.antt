@@ -1,19 +1,17 @@
 -- `run::starting::start` meets its promise: after k turns the places are those of the table's first k servers.
-use Prim.Native.Nat.{◌-◌, ◌≤◌, ◌<◌}
+use Prim.Native.Nat.{◌<◌}
 use mathlib.Core.Path.{◌≡◌}
 use native.Mathlib.Numerals.{add-one}
 use native.Mathlib.Omega.{arith}
 use Rattle.books.proofs.Accepted.{frame_read, servers_read, booking_read}
-use Rattle.counting.specs.Places.{places}
-use Rattle.dispatcher.specs.Start.{start_at, at_start}
-use Rattle.dispatcher.proofs.StartLaws.{first_of, start_none, start_more}
+use Rattle.dispatcher.specs.Start.{at_start}
+use Rattle.dispatcher.proofs.StartLaws.{start_none, start_more}
 use Rattle.moments.specs.Moments.{at_moment}
-use Rattle.sizes.specs.Sizes.{most_servers}
 use Rattle.workfile.specs.Work.{work}
 use Rattle.run.proofs.starting.start.Goals as goal
 
 pub loop-k-init : goal.loop-k-init
-loop-k-init c = (omega arith, rw c.vacant-servers.ensures (start_none _))
+loop-k-init c = record { within = omega arith; servers_are = rw c.vacant-servers.ensures (start_none _) }
 
 pub offset_bounds-servers-k : goal.offset_bounds-servers-k
 offset_bounds-servers-k c =
@@ -30,17 +28,19 @@ loop-k-preserved c =
     let file = c.args.file.now in
     let read = c.header_of-h.ensures in
     let k = c.loop-k.k in
-    let more : k < (work file).table.count = omega (arith, c.loop-k-test.true, servers_read file read) in (
-      omega (arith, more),
-      rw (
-        add-one,
-        c.loop-k.invariant.1,
-        c.fresh.ensures,
-        c.booking_of.ensures,
-        booking_read file read k,
-      )
-          (start_more (work file).table.booking k (omega (arith, more, c.requires.fit.servers))),
-    )
+    let more : k < (work file).table.count = omega (arith, c.loop-k-test.true, servers_read file read) in
+    record {
+      within = omega (arith, more);
+      servers_are =
+          rw (
+            add-one,
+            c.loop-k.invariant.servers_are,
+            c.fresh.ensures,
+            c.booking_of.ensures,
+            booking_read file read k,
+          )
+          (start_more (work file).table.booking k (omega (arith, more, c.requires.fit.servers)));
+    }
 
 pub returns : goal.returns
 unfolding at_moment at_start
@@ -48,5 +48,5 @@ returns c =
     let file = c.args.file.now in
     let read = c.header_of-h.ensures in
     let all : c.loop-k.k ≡ (work file).table.count
-    = omega (arith, c.loop-k.invariant.0, c.loop-k-test.false, servers_read file read) in
-    rw (c.loop-k.invariant.1, all, frame_read file read, servers_read file read)
+    = omega (arith, c.loop-k.invariant.within, c.loop-k-test.false, servers_read file read) in
+    rw (c.loop-k.invariant.servers_are, all, frame_read file read, servers_read file read)
