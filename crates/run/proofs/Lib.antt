@@ -1,4 +1,5 @@
 pub mod OutcomeLaws
 pub mod OutcomeOnPaperLaws
 pub mod Promises
+pub mod RivalLaws
 pub mod UnusedBytes

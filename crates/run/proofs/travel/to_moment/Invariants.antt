@@ -22,15 +22,15 @@ use Rattle.workfile.specs.Work.{Work, work}
 use Rattle.run.proofs.travel.to_moment.Given as goal
 
 abbrev pub invariant-loop-next : goal.invariant-loop-next
-invariant-loop-next l = 
+invariant-loop-next l =
     Taking (work l.file) l.until.tick (here l.t.tick l.initial.j l.initial.d) (here l.t.tick l.j l.d) (tree_of l.leaves l.keys) l.next.tick l.root
 
 abbrev pub decreases-loop-next : goal.decreases-loop-next
-decreases-loop-next l = 
+decreases-loop-next l =
     (work l.file).arrivals - l.j
 
 abbrev pub invariant-loop-t : goal.invariant-loop-t
-invariant-loop-t l = 
+invariant-loop-t l =
     OnTheWay (lent_in (work l.file) l.initial.t.tick l.initial.c l.initial.list l.initial.finishes) (here l.t.tick l.j l.d)
     (book (turn_book (tree_of l.leaves l.keys) l.postponed l.interrupted (segment_book l.list l.c)) (job_book l.job l.left l.finishes))
     l.until.tick
@@ -38,5 +38,5 @@ invariant-loop-t l =
     l.root
 
 abbrev pub decreases-loop-t : goal.decreases-loop-t
-decreases-loop-t l = 
+decreases-loop-t l =
     l.until.tick - l.t.tick
