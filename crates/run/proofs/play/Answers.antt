@@ -11,7 +11,7 @@ use Rattle.run.proofs.play.Goals as goal
 
 pub travel-went-requires : goal.travel-went-requires
 travel-went-requires c =
-    let pre = c.requires in (judged_accepted _ _ pre, (judged_fit _ _ pre).finishes)
+    let pre = c.requires in record { accepted = judged_accepted _ _ pre; file_in_bounds = (judged_fit _ _ pre).finishes }
 
 pub returns : goal.returns
 returns c =

@@ -7,19 +7,21 @@ use Rattle.run.proofs.stretches.end_segment.Goals as goal
 
 pub returns-then-server-ge-MOST_SERVERS : goal.returns-then-server-ge-MOST_SERVERS
 returns-then-server-ge-MOST_SERVERS c =
-    let cur = c.args.c in
-    (sym (count_nobody cur c.if-server-ge-MOST_SERVERS.true), sym (list_nobody cur c.if-server-ge-MOST_SERVERS.true _ _))
+    let nobody = c.if-server-ge-MOST_SERVERS.true in
+    record { value = sym (count_nobody c.args.c nobody); list_after = sym (list_nobody c.args.c nobody _ _) }
 
 pub returns : goal.returns
 returns c =
     let below = c.if-server-ge-MOST_SERVERS.false in
-    let a = c.args in (
-      sym (count_after_is a.c below),
-      c.write.ensures
+    let a = c.args in
+    record {
+      value = sym (count_after_is a.c below);
+      list_after =
+          c.write.ensures
           ∙ ap
           (λ (l : Length). put a.c.count
           (record { start = a.c.start; length = l; server = a.c.server; deadline = a.c.deadline })
           a.list.now)
           c.until-length.ensures
-          ∙ sym (list_after_is a.c below _ _),
-    )
+          ∙ sym (list_after_is a.c below _ _);
+    }

@@ -1,32 +1,39 @@
 -- `run::stretches::interrupt` meets its promise: where the stretch is interrupted it is a server's, which has a place.
-use Prim.Native.Nat.{◌<◌}
-use mathlib.Core.Bool.{true}
+use Prim.Native.Nat.{ℕ, ◌<◌}
+use lib.Dec.{eqb, ltb}
+use mathlib.Core.Bool.{Bool, true, not, ◌&&◌}
 use mathlib.Core.Path.{◌≡◌, sym, ◌∙◌}
 use native.Mathlib.Omega.{arith}
 use Rattle.books.proofs.Stretches.Interruptions.{one_more, none_more}
 use Rattle.sizes.specs.Sizes.{most_servers}
 use Rattle.summary.proofs.InterruptedLaws.{interrupted_by, interrupted_server}
 use Rattle.run.proofs.stretches.interrupt.Goals as goal
-use Rattle.run.proofs.stretches.interrupt.Goals.{Then-interrupted_by}
 
-so : (c : Then-interrupted_by) → let a = c.args in interrupted_by a.c.server a.c.waits.ticks a.i ≡ true
+so : {test : Bool} (server waits next : ℕ) → test ≡ (ltb server most_servers && ltb next most_servers && ltb 0 waits && not (eqb server next))
+    → test ≡ true → interrupted_by server waits next ≡ true
 unfolding interrupted_by
-so c = sym c.interrupted_by.ensures ∙ c.if-interrupted_by.true
+so server waits next is holds = sym is ∙ holds
 
-place : (c : Then-interrupted_by) → c.args.c.server < most_servers
-place c = let a = c.args in interrupted_server a.c.server a.c.waits.ticks a.i (so c)
+place : {test : Bool} (server waits next : ℕ) → test ≡ (ltb server most_servers && ltb next most_servers && ltb 0 waits && not (eqb server next))
+    → test ≡ true → server < most_servers
+place server waits next is holds = interrupted_server server waits next (so server waits next is holds)
 
 pub offset_bounds-interrupted-server : goal.offset_bounds-interrupted-server
-offset_bounds-interrupted-server c = omega (arith, place c)
+offset_bounds-interrupted-server c =
+    let a = c.args in omega (arith, place a.c.server a.c.waits.ticks a.i c.interrupted_by.ensures c.if-interrupted_by.true)
 
 pub bounds-interrupted-server : goal.bounds-interrupted-server
-bounds-interrupted-server c = place c
+bounds-interrupted-server c =
+    let a = c.args in place a.c.server a.c.waits.ticks a.i c.interrupted_by.ensures c.if-interrupted_by.true
 
 pub bounds-interrupted-server-then-interrupted_by : goal.bounds-interrupted-server-then-interrupted_by
-bounds-interrupted-server-then-interrupted_by c = place c.?before
+bounds-interrupted-server-then-interrupted_by c =
+    let a = c.args in place a.c.server a.c.waits.ticks a.i c.interrupted_by.ensures c.if-interrupted_by.true
 
 pub returns-then-interrupted_by : goal.returns-then-interrupted_by
-returns-then-interrupted_by c = let a = c.args in sym (one_more a.c a.i _ (so c.?before))
+returns-then-interrupted_by c =
+    let a = c.args in
+    sym (one_more a.c a.i _ (so a.c.server a.c.waits.ticks a.i c.interrupted_by.ensures c.if-interrupted_by.true))
 
 pub returns-else-interrupted_by : goal.returns-else-interrupted_by
 unfolding interrupted_by

@@ -15,7 +15,7 @@ pub returns : goal.returns
 returns c =
     let a = c.args in
     let ended = c.end_segment-count.ensures in
-    segments_same ended.1 (rw ended.0 refl)
+    segments_same ended.list_after (rw ended.value refl)
     ∙ sym
     (turned_ends (segment_book a.list.now a.c) a.t.tick a.i a.deadline
     (sym c.goes_on.ensures ∙ c.if-goes_on.false))

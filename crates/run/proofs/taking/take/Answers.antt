@@ -1,23 +1,28 @@
 -- `run::taking::take` meets its promise: within its ranges the server takes the work as document 01 says, and its key fits 64 bits.
+use Prim.Native.Nat.{ℕ}
 use mathlib.Core.Path.{◌≡◌, ◌∙◌}
 use native.Mathlib.Omega.{arith}
+use Rattle.books.proofs.Travel.ArrivalTaken.{MayTake}
+use Rattle.books.proofs.Tree.Winners.{Tree}
+use Rattle.clock.specs.declared.Length.{Length}
+use Rattle.clock.specs.declared.Moment.{Moment}
 use Rattle.server.specs.Moves.{arrived}
+use Rattle.server.specs.declared.Server.{Server}
 use Rattle.server.proofs.RangeLaws.{arrived_ranged, deadline_below}
 use Rattle.steps.proofs.StepLaws.{arrival_ranged}
+use Rattle.steps.specs.Steps.{after_arrival}
 use Rattle.run.proofs.taking.take.Goals as goal
-use Rattle.run.proofs.taking.take.Goals.{After-take-taken}
 
 -- the server with the work
-taken : (c : After-take-taken) → let a = c.args in c.take-taken.result ≡ arrived a.s a.t a.cost
-taken c =
-    let pre = c.requires in
-    c.take-taken.ensures ∙ arrival_ranged pre.ranged pre.time c.args.cost pre.room
+taken : {tree : Tree} {i : ℕ} {s server : Server} {t : Moment} {cost : Length} → MayTake tree i s t cost → server ≡ after_arrival s t cost
+    → server ≡ arrived s t cost
+taken {cost = cost} may is = is ∙ arrival_ranged may.ranged may.time cost may.room
 
 pub key_of-requires : goal.key_of-requires
 key_of-requires c =
     let a = c.args in
     let pre = c.requires in
-    rw (taken c.?before)
+    rw (taken pre c.take-taken.ensures)
     (omega (
       arith,
       deadline_below (arrived_ranged a.s a.t a.cost pre.ranged pre.room) pre.time,
@@ -26,4 +31,4 @@ key_of-requires c =
     ))
 
 pub returns : goal.returns
-returns c = (taken c.?before, rw c.key_of.ensures at c.set_key.ensures)
+returns c = record { value = taken c.requires c.take-taken.ensures; set = rw c.key_of.ensures at c.set_key.ensures }

@@ -110,7 +110,6 @@ starts p =
 
 at_horizon : (p : After-behind-2-1) → p.before.before.before.before.before.before.before.before.before.before.before.before.before.before.before.before.before.before.header_of.result.horizon.tick ≡ (its p).horizon.tick
 at_horizon p = horizon_read _ p.before.before.before.before.before.before.before.before.before.before.before.before.before.before.before.before.before.before.header_of.ensures
-
 -- TODO to-moment-requires : tie.Need-to-moment-requires
 to-moment-requires p κs =
     record {

@@ -1,6 +1,5 @@
 -- `run::tree::climb` meets its promise: every turn is a turn of the climb, and after so many it has reached the root.
-use native.Mathlib.Omega.{arith}
-use Rattle.books.proofs.Tree.Climb.{Climb, Below, one_up, root_reached, climb_goes_on, climb_over}
+use Rattle.books.proofs.Tree.Climb.{Climb, Below}
 use Rattle.run.proofs.tree.climb.Given as goal
 
 abbrev pub invariant-loop-above : goal.invariant-loop-above

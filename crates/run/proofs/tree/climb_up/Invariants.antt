@@ -1,5 +1,5 @@
 -- `run::tree::climb_up` meets its promise: every turn is a turn of the climb, which ends at the root.
-use Rattle.books.proofs.Tree.Climb.{Climb, climb_goes_on, climb_over}
+use Rattle.books.proofs.Tree.Climb.{Climb}
 use Rattle.run.proofs.tree.climb_up.Given as goal
 
 abbrev pub invariant-loop-at : goal.invariant-loop-at
