@@ -8,8 +8,6 @@ ghost use Rattle.report.specs.DayReport.{day_report, most_bytes};
 ghost use Rattle.sizes.specs.Sizes.{most_file};
 ghost use Rattle.day_report.specs.Working.Printed.{Printed};
 
-use std::io::Input;
-
 // The longest work file, and one byte to know a longer one.
 const ROOM: usize = sizes::MOST_FILE + 1;
 
