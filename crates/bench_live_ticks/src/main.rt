@@ -8,30 +8,39 @@ mod say;
 mod tally;
 mod work;
 
-use libc::STDIN_FILENO;
+ghost use Rattle.std.specs.Prelude.{length, ◌≡◌};
+ghost use Rattle.sizes.specs.Sizes.{most_file};
 
-fn main() {
-    // As long as the longest work file.
-    let mut room = io::large_buffer();
-    let length = io::read_full(STDIN_FILENO, &mut room);
-    play(&room[..length], letter());
+use std::env::Env;
+
+fn main(rt: HostRuntime) {
+    let mut room = room_for_file();
+    let length = input::read_full(&mut rt.reader(), &mut room);
+    play(&rt, &room[..length], letter(&rt));
 }
 
 // The ticks of a file, in the form that begins with a letter.
-fn play(file: &[u8], letter: u8) {
+fn play(rt: &impl Print, file: &[u8], letter: u8) {
     let start = work::start(file);
     let count = work::horizon(file);
     if letter != b'l' {
-        say::all(by_value::ticks(start, count));
+        say::all(rt, by_value::ticks(start, count));
     }
     if letter != b'b' {
-        say::all(lent::ticks(start, count));
+        say::all(rt, lent::ticks(start, count));
     }
 }
 
 // The first letter of the word, 0 where there is none.
-fn letter() -> u8 {
+fn letter(rt: &impl Env) -> u8 {
     let mut word = [0u8; 8];
-    os::arg(1, &mut word);
+    let _ = rt.arg(1, &mut word);
     word[0]
+}
+
+// As long as the longest work file. The contract gives the length, which lending the array needs.
+fn room_for_file() -> [u8; sizes::MOST_FILE]
+    ensures { most_file ≡ length result }
+{
+    [0; sizes::MOST_FILE]
 }

@@ -1,7 +1,7 @@
 // A work file as a dispatcher to tick: its table, the arrivals of moment 0, and its horizon.
 ghost use Rattle.std.specs.Prelude.{length, ◌≡◌};
 ghost use Rattle.dispatcher.specs.Within.{Within};
-ghost use Rattle.io.specs.Counts.{IsPrefixLen};
+ghost use Rattle.std.specs.Counts.{IsPrefixLen};
 
 use dispatcher::Dispatcher;
 use workfile::Header;

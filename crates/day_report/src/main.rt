@@ -3,36 +3,38 @@
 #![tactic(auto)]
 
 ghost use Rattle.std.specs.Prelude.{◌+◌, ◌≤◌, length, take, ◌≡◌};
-ghost use Rattle.io.specs.Counts.{IsPrefixLen};
+ghost use Rattle.std.specs.Counts.{IsPrefixLen};
 ghost use Rattle.report.specs.DayReport.{day_report, most_bytes};
 ghost use Rattle.sizes.specs.Sizes.{most_file};
 ghost use Rattle.day_report.specs.Working.Printed.{Printed};
 
-use libc::{STDERR_FILENO, STDIN_FILENO, STDOUT_FILENO};
-
 // The longest work file, and one byte to know a longer one.
 const ROOM: usize = sizes::MOST_FILE + 1;
 
-fn main() {
+fn main(rt: HostRuntime) {
     let mut file = room_for_file();
     let mut text = room_for_text();
-    print_report(&mut file, &mut text);
+    print_report(&rt, &mut file, &mut text);
 }
 
 // Reads into the room, and writes the report of what was read.
-fn print_report(room: &mut [u8], text: &mut [u8])
+fn print_report(rt: &(impl Input + Print + Eprint), room: &mut [u8], text: &mut [u8])
     requires { most_bytes ≤ length text.old }
     ensures { Printed room.new text.old text.new }
 {
-    let length = io::read_full(STDIN_FILENO, room);
-    if length < room.len() && !is_ended() {
-        complain(b"day_report: standard input could not be read to its end\n");
+    let mut input = rt.reader();
+    let length = input::read_full(&mut input, room);
+    if length < room.len() && !input::is_ended(&mut input) {
+        complain(
+            rt,
+            "day_report: standard input could not be read to its end",
+        );
         return;
     }
     let end = whole_report(&room[..length], text);
-    let written = io::write_all(STDOUT_FILENO, &text[..end]);
-    if !written {
-        complain(b"day_report: the report could not be written\n");
+    let written = rt.write_all(&text[..end]);
+    if written.is_err() {
+        complain(rt, "day_report: the report could not be written");
     }
 }
 
@@ -45,14 +47,9 @@ fn whole_report(file: &[u8], text: &mut [u8]) -> usize
     report::day_report(file, text)
 }
 
-// Whether the input is at its end: a read that stopped early may also have failed, and then the next one does not answer 0.
-fn is_ended() -> bool {
-    let mut more = [0u8; 1];
-    libc::read(STDIN_FILENO, &mut more) == 0
-}
-
-fn complain(line: &[u8]) {
-    io::write_all(STDERR_FILENO, line);
+// A line on standard error. Where that cannot be written either, nothing is left to say.
+fn complain(rt: &impl Eprint, line: &str) {
+    let _ = rt.eprintln(line);
 }
 
 // The contracts give the lengths, which lending the arrays needs.

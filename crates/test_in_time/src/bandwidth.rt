@@ -30,10 +30,10 @@ pub(crate) fn counts(w: Window, server: usize, deadline: Moment) -> bool
 }
 
 // The line of a window in which a booking's server got so many ticks.
-pub(crate) fn line(form: &[u8], k: Booking, w: Window, got: u64)
+pub(crate) fn line(rt: &impl Print, form: &[u8], k: Booking, w: Window, got: u64)
     requires { Allowed k w got }
 {
-    say::bandwidth(form, w, got, whole(k, w, got), left(k, w, got));
+    say::bandwidth(rt, form, w, got, whole(k, w, got), left(k, w, got));
 }
 
 // All that the booking gives, (b − a) × Q.

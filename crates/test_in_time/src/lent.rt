@@ -25,16 +25,16 @@ pub struct Counted {
 }
 
 // A line for each of some windows that start at the dispatcher's moment.
-pub(crate) fn lines(start: Dispatcher)
+pub(crate) fn lines(rt: &impl Print, start: Dispatcher)
     requires { Live start }
 {
-    line(start, 0, Moment { tick: 10 });
-    line(start, 0, Moment { tick: 15 });
-    line(start, 1, Moment { tick: 11 });
+    line(rt, start, 0, Moment { tick: 10 });
+    line(rt, start, 0, Moment { tick: 15 });
+    line(rt, start, 1, Moment { tick: 11 });
 }
 
 // The line of one, where its server has no work waiting then.
-fn line(start: Dispatcher, i: usize, to: Moment)
+fn line(rt: &impl Print, start: Dispatcher, i: usize, to: Moment)
     requires live { Live start }
     requires tick_le_clock_end { to.tick ≤ clock_end }
 {
@@ -47,7 +47,7 @@ fn line(start: Dispatcher, i: usize, to: Moment)
                 from,
                 to,
             };
-            bandwidth::line(b"live: ", booking_of(s), w, moves(start, w));
+            bandwidth::line(rt, b"live: ", booking_of(s), w, moves(start, w));
         }
     }
 }

@@ -18,13 +18,21 @@ use clock::Moment;
 use trace::Segment;
 
 // The line of a window, where its server had no work waiting when it starts.
-pub(crate) fn line(file: &[u8], list: &[u64], segments: usize, finishes: &[u32], w: Window)
+pub(crate) fn line(
+    rt: &impl Print,
+    file: &[u8],
+    list: &[u64],
+    segments: usize,
+    finishes: &[u32],
+    w: Window,
+)
     requires after_run { AfterRun file.now list.now segments finishes.now }
     requires tick_le_clock_end { w.to.tick ≤ clock_end }
 {
     if is_in_run(file, w) {
         if is_idle(file, finishes, w) {
             bandwidth::line(
+                rt,
                 b"run: ",
                 booking_of(file, w.server),
                 w,

@@ -8,30 +8,30 @@ use dispatcher::{Dispatcher, TickAnswer};
 use refusal::Verdict;
 
 // File P's table: H 10, servers (2, 5) and (3, 5).
-pub(crate) fn file_p() {
-    open(&[2, 5, 3, 5], Length { ticks: 10 });
+pub(crate) fn file_p(rt: &impl Print) {
+    open(rt, &[2, 5, 3, 5], Length { ticks: 10 });
 }
 
 // Opens the table, and plays where it is accepted, by value and then lent: of such a table demand 3 speaks.
-fn open(table: &[u64], frame: Length) {
+fn open(rt: &impl Print, table: &[u64], frame: Length) {
     let opened = opening::open_table(table, frame);
     let answer = opened.answer;
     let start = opened.dispatcher;
     if let Verdict::Accepted = answer {
-        moves(start);
-        lent::lines(start);
+        moves(rt, start);
+        lent::lines(rt, start);
     }
 }
 
 // File P's arrivals, (0, 0, 5), (0, 1, 3) and (6, 1, 2), and its 12 ticks.
-fn moves(start: Dispatcher)
+fn moves(rt: &impl Print, start: Dispatcher)
     requires { Live start }
 {
     let mut at = arrival(start, 0, 5);
     at = arrival(at, 1, 3);
-    at = ticks(at, 6);
+    at = ticks(rt, at, 6);
     at = arrival(at, 1, 2);
-    ticks(at, 6);
+    ticks(rt, at, 6);
 }
 
 // Work for a server, which may be refused: the dispatcher is live all the same.
@@ -44,21 +44,21 @@ fn arrival(d: Dispatcher, server: usize, cost: u64) -> Dispatcher
 }
 
 // So many ticks, one after the other.
-fn ticks(d: Dispatcher, times: u64) -> Dispatcher
+fn ticks(rt: &impl Print, d: Dispatcher, times: u64) -> Dispatcher
     requires { Live d }
     ensures { Live result }
 {
     let mut at = d;
     let mut left = times;
     while left > 0 {
-        at = tick(at);
+        at = tick(rt, at);
         left -= 1;
     }
     at
 }
 
 // One tick, and a line where a server got it. That it then ended no later than its deadline is demand 3.
-fn tick(d: Dispatcher) -> Dispatcher
+fn tick(rt: &impl Print, d: Dispatcher) -> Dispatcher
     requires { Live d }
     ensures { Live result }
 {
@@ -71,7 +71,7 @@ fn tick(d: Dispatcher) -> Dispatcher
         postponed,
     } = answer
     {
-        say::tick(server, deadline, left(after.clock, deadline));
+        say::tick(rt, server, deadline, left(after.clock, deadline));
     }
     after
 }

@@ -11,7 +11,7 @@ mod live;
 mod say;
 mod traced;
 
-fn main() {
-    live::file_p();
-    traced::file_p();
+fn main(rt: HostRuntime) {
+    live::file_p(&rt);
+    traced::file_p(&rt);
 }

@@ -1,57 +1,56 @@
-// What is left to the deadlines and of the bandwidth, as lines of text.
+// What is left to the deadlines and of the bandwidth, as lines of text. A line that cannot be written is missing from the output.
 use crate::bandwidth::Window;
 use clock::{Length, Moment};
-use libc::STDOUT_FILENO;
 
 // A tick that a server got in the live play.
-pub(crate) fn tick(server: usize, deadline: Moment, left: Length) {
-    words(b"live: ");
-    under(server, deadline, left);
+pub(crate) fn tick(rt: &impl Print, server: usize, deadline: Moment, left: Length) {
+    words(rt, b"live: ");
+    under(rt, server, deadline, left);
 }
 
 // A segment of the run's trace, by its number.
-pub(crate) fn segment(k: usize, server: usize, deadline: Moment, left: Length) {
-    words(b"run: segment ");
-    number(k as u64);
-    words(b" of ");
-    under(server, deadline, left);
+pub(crate) fn segment(rt: &impl Print, k: usize, server: usize, deadline: Moment, left: Length) {
+    words(rt, b"run: segment ");
+    number(rt, k as u64);
+    words(rt, b" of ");
+    under(rt, server, deadline, left);
 }
 
 // The rest of a line, the same for both.
-fn under(server: usize, deadline: Moment, left: Length) {
-    words(b"server ");
-    number(server as u64);
-    words(b" under ");
-    number(deadline.tick);
-    words(b", ");
-    number(left.ticks);
-    words(b" left\n");
+fn under(rt: &impl Print, server: usize, deadline: Moment, left: Length) {
+    words(rt, b"server ");
+    number(rt, server as u64);
+    words(rt, b" under ");
+    number(rt, deadline.tick);
+    words(rt, b", ");
+    number(rt, left.ticks);
+    words(rt, b" left\n");
 }
 
 // What a server got in a window, and what that leaves of its bandwidth.
-pub(crate) fn bandwidth(form: &[u8], w: Window, got: u64, whole: u64, left: u64) {
-    words(form);
-    words(b"server ");
-    number(w.server as u64);
-    words(b" got ");
-    number(got);
-    words(b" from ");
-    number(w.from.tick);
-    words(b" on under deadlines up to ");
-    number(w.to.tick);
-    words(b", ");
-    number(left);
-    words(b" of ");
-    number(whole);
-    words(b" left\n");
+pub(crate) fn bandwidth(rt: &impl Print, form: &[u8], w: Window, got: u64, whole: u64, left: u64) {
+    words(rt, form);
+    words(rt, b"server ");
+    number(rt, w.server as u64);
+    words(rt, b" got ");
+    number(rt, got);
+    words(rt, b" from ");
+    number(rt, w.from.tick);
+    words(rt, b" on under deadlines up to ");
+    number(rt, w.to.tick);
+    words(rt, b", ");
+    number(rt, left);
+    words(rt, b" of ");
+    number(rt, whole);
+    words(rt, b" left\n");
 }
 
 // A text as it stands.
-fn words(text: &[u8]) {
-    io::write_all(STDOUT_FILENO, text);
+fn words(rt: &impl Print, text: &[u8]) {
+    let _ = rt.write_all(text);
 }
 
 // A number, in decimal.
-fn number(n: u64) {
-    io::print_decimal(STDOUT_FILENO, n);
+fn number(rt: &impl Print, n: u64) {
+    let _ = rt.print(n);
 }

@@ -12,13 +12,13 @@ use refusal::Verdict;
 use trace::Segment;
 
 // File P: a header, two servers and three arrivals. The trace list holds 6 segments, one more than there are.
-pub(crate) fn file_p() {
+pub(crate) fn file_p(rt: &impl Print) {
     let numbers = [10, 12, 2, 24, 3, 40, 2, 5, 3, 5, 0, 0, 5, 0, 1, 3, 6, 1, 2];
     let mut file = [0; 76];
     lay(&numbers, &mut file);
     let mut list = [0; 24];
     let mut finishes = [0; 3];
-    run(&file, &mut list, &mut finishes);
+    run(rt, &file, &mut list, &mut finishes);
 }
 
 // Writes numbers into the bytes of a file, whose other bytes are 0: a number of a file has 32 bits, low byte first.
@@ -33,41 +33,41 @@ fn lay(numbers: &[u8], file: &mut [u8])
 }
 
 // Runs the file, and writes what demand 3 says of the lists that an accepted one leaves.
-fn run(file: &[u8], list: &mut [u64], finishes: &mut [u32]) {
+fn run(rt: &impl Print, file: &[u8], list: &mut [u64], finishes: &mut [u32]) {
     let ran = run::run(file, list, finishes);
     let verdict = ran.verdict;
     if let Verdict::Accepted = verdict {
-        lines(file, list, ran.segments, finishes);
+        lines(rt, file, list, ran.segments, finishes);
     }
 }
 
 // A line for each segment, and for each of some windows. Server 0 has work waiting at 6, so its window from there on has none.
-fn lines(file: &[u8], list: &[u64], count: usize, finishes: &[u32])
+fn lines(rt: &impl Print, file: &[u8], list: &[u64], count: usize, finishes: &[u32])
     requires { AfterRun file.now list.now count finishes.now }
 {
-    segments(list, count);
-    lists::line(file, list, count, finishes, window(0, 0, 10));
-    lists::line(file, list, count, finishes, window(0, 6, 15));
-    lists::line(file, list, count, finishes, window(1, 6, 11));
+    segments(rt, list, count);
+    lists::line(rt, file, list, count, finishes, window(0, 0, 10));
+    lists::line(rt, file, list, count, finishes, window(0, 6, 15));
+    lists::line(rt, file, list, count, finishes, window(1, 6, 11));
 }
 
 // A line for each segment that the list holds.
-fn segments(list: &[u64], count: usize)
+fn segments(rt: &impl Print, list: &[u64], count: usize)
     requires { AllInTime count list.now }
 {
     let held = lists::held(list, count);
     let mut k = 0;
     while k < held {
-        segment(k, trace::segment_at(list, k));
+        segment(rt, k, trace::segment_at(list, k));
         k += 1;
     }
 }
 
 // The line of segment k.
-fn segment(k: usize, s: Segment)
+fn segment(rt: &impl Print, k: usize, s: Segment)
     requires { InTime s }
 {
-    say::segment(k, s.server, s.deadline, spare(s));
+    say::segment(rt, k, s.server, s.deadline, spare(s));
 }
 
 // What lies between the end of a segment and its deadline, which its caller knows to be no earlier.

@@ -8,7 +8,7 @@ use crate::{say, script};
 use dispatcher::Dispatcher;
 
 // So many moves of the list, from a dispatcher on.
-pub(crate) fn play(start: Dispatcher, list: &[u64], count: u64) -> Dispatcher
+pub(crate) fn play(rt: &impl Print, start: Dispatcher, list: &[u64], count: u64) -> Dispatcher
     requires { Within start }
     ensures value { result ≡ played start list.now count }
     ensures within { Within result }
@@ -16,14 +16,14 @@ pub(crate) fn play(start: Dispatcher, list: &[u64], count: u64) -> Dispatcher
     let mut d = start;
     let mut k = 0;
     while k < count {
-        d = turn(d, script::nth(list, k));
+        d = turn(rt, d, script::nth(list, k));
         k += 1;
     }
     d
 }
 
 // One move, and its answer written.
-fn turn(d: Dispatcher, m: Move) -> Dispatcher
+fn turn(rt: &impl Print, d: Dispatcher, m: Move) -> Dispatcher
     requires { Within d }
     ensures value { result ≡ moved_by d m }
     ensures within { Within result }
@@ -33,7 +33,7 @@ fn turn(d: Dispatcher, m: Move) -> Dispatcher
         Move::Tick { written } => {
             let t = dispatcher::tick(d);
             let answer = t.answer;
-            say::tick(now, answer, written);
+            say::tick(rt, now, answer, written);
             t.dispatcher
         }
         Move::Arrival {
@@ -43,7 +43,7 @@ fn turn(d: Dispatcher, m: Move) -> Dispatcher
         } => {
             let a = dispatcher::arrival(d, server, cost);
             let answer = a.answer;
-            say::arrival(now, server, cost, answer, written);
+            say::arrival(rt, now, server, cost, answer, written);
             a.dispatcher
         }
     }

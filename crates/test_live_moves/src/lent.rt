@@ -8,7 +8,7 @@ use crate::{say, script};
 use dispatcher::Dispatcher;
 
 // So many moves of the list, from a dispatcher on.
-pub(crate) fn play(start: Dispatcher, list: &[u64], count: u64) -> Dispatcher
+pub(crate) fn play(rt: &impl Print, start: Dispatcher, list: &[u64], count: u64) -> Dispatcher
     requires { Within start }
     ensures value { result ≡ played start list.now count }
     ensures within { Within result }
@@ -16,26 +16,27 @@ pub(crate) fn play(start: Dispatcher, list: &[u64], count: u64) -> Dispatcher
     let mut d = start;
     let mut k = 0;
     while k < count {
-        turn(&mut d, script::nth(list, k));
+        turn(rt, &mut d, script::nth(list, k));
         k += 1;
     }
     d
 }
 
 // One move, and its answer written.
-fn turn(d: &mut Dispatcher, m: Move)
+fn turn(rt: &impl Print, d: &mut Dispatcher, m: Move)
     requires { Within d.old }
     ensures d_after { d.new ≡ moved_by d.old m }
     ensures within { Within d.new }
 {
     let now = d.clock;
     match m {
-        Move::Tick { written } => say::tick(now, live_loop::tick(d), written),
+        Move::Tick { written } => say::tick(rt, now, live_loop::tick(d), written),
         Move::Arrival {
             server,
             cost,
             written,
         } => say::arrival(
+            rt,
             now,
             server,
             cost,

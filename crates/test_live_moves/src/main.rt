@@ -11,139 +11,145 @@ mod script;
 use clock::Length;
 use script::TICK;
 
-fn main() {
-    file_p();
-    waking();
-    frames();
-    odd_lists();
-    faulty_servers();
-    shares();
-    longest_frame();
-    many_servers();
-    faulty_arrivals();
-    after_a_refusal();
-    full_server();
-    clock_end();
+fn main(rt: HostRuntime) {
+    file_p(&rt);
+    waking(&rt);
+    frames(&rt);
+    odd_lists(&rt);
+    faulty_servers(&rt);
+    shares(&rt);
+    longest_frame(&rt);
+    many_servers(&rt);
+    faulty_arrivals(&rt);
+    after_a_refusal(&rt);
+    full_server(&rt);
+    clock_end(&rt);
 }
 
 // Opens the table, and plays the list from its dispatcher on in both ways, writing what the dispatcher then is.
-fn both(table: &[u64], frame: u64, list: &[u64]) {
+fn both(rt: &impl Print, table: &[u64], frame: u64, list: &[u64]) {
     let opened = opening::open_table(table, Length { ticks: frame });
     let answer = opened.answer;
     let start = opened.dispatcher;
     let count = script::count(list);
-    say::opening(frame, table.len(), answer);
-    say::line(b"lent:");
-    say::servers(lent::play(start, list, count));
-    say::line(b"by value:");
-    say::servers(by_value::play(start, list, count));
+    say::opening(rt, frame, table.len(), answer);
+    say::line(rt, b"lent:");
+    say::servers(rt, lent::play(rt, start, list, count));
+    say::line(rt, b"by value:");
+    say::servers(rt, by_value::play(rt, start, list, count));
 }
 
 // Opens the table, and writes its dispatcher.
-fn opened(table: &[u64], frame: u64) {
+fn opened(rt: &impl Print, table: &[u64], frame: u64) {
     let opened = opening::open_table(table, Length { ticks: frame });
     let answer = opened.answer;
-    say::opening(frame, table.len(), answer);
-    say::servers(opened.dispatcher);
+    say::opening(rt, frame, table.len(), answer);
+    say::servers(rt, opened.dispatcher);
 }
 
 // File P: H 10, N 12, servers (2, 5) and (3, 5), arrivals (0, 0, 5), (0, 1, 3), (6, 1, 2).
-fn file_p() {
-    say::line(b"File P");
+fn file_p(rt: &impl Print) {
+    say::line(rt, b"File P");
     let moves = [0, 5, 1, 1, 3, 1, TICK, 0, 6, 1, 2, 1, TICK, 0, 6];
-    both(&[2, 5, 3, 5], 10, &moves);
+    both(rt, &[2, 5, 3, 5], 10, &moves);
 }
 
 // Server (2, 6) with c 1 and d 6 keeps them at 2, as 6 < 8, renews at 3, as 6 = 6, and renews when its deadline has passed.
-fn waking() {
-    say::line(b"waking early");
-    both(&[2, 6], 6, &[0, 1, 1, TICK, 0, 2, 0, 1, 1]);
-    say::line(b"waking at equality");
-    both(&[2, 6], 6, &[0, 1, 1, TICK, 0, 3, 0, 1, 1]);
-    say::line(b"waking late");
-    both(&[2, 6], 6, &[0, 1, 1, TICK, 0, 9, 0, 1, 1]);
+fn waking(rt: &impl Print) {
+    say::line(rt, b"waking early");
+    both(rt, &[2, 6], 6, &[0, 1, 1, TICK, 0, 2, 0, 1, 1]);
+    say::line(rt, b"waking at equality");
+    both(rt, &[2, 6], 6, &[0, 1, 1, TICK, 0, 3, 0, 1, 1]);
+    say::line(rt, b"waking late");
+    both(rt, &[2, 6], 6, &[0, 1, 1, TICK, 0, 9, 0, 1, 1]);
 }
 
 // 2 for the frame, at its edges.
-fn frames() {
-    say::line(b"tables with no server");
-    opened(&[], 1);
-    opened(&[], 604800);
-    opened(&[], 0);
-    opened(&[], 604801);
-    opened(&[], 18446744073709551615);
+fn frames(rt: &impl Print) {
+    say::line(rt, b"tables with no server");
+    opened(rt, &[], 1);
+    opened(rt, &[], 604800);
+    opened(rt, &[], 0);
+    opened(rt, &[], 604801);
+    opened(rt, &[], 18446744073709551615);
 }
 
 // 2 for the count of numbers.
-fn odd_lists() {
-    say::line(b"an odd count of numbers");
-    opened(&[1], 1);
-    opened(&[1, 1, 1], 1);
+fn odd_lists(rt: &impl Print) {
+    say::line(rt, b"an odd count of numbers");
+    opened(rt, &[1], 1);
+    opened(rt, &[1, 1, 1], 1);
 }
 
 // 4 for each fault, and at a place other than 0.
-fn faulty_servers() {
-    say::line(b"a faulty server");
-    opened(&[1, 0], 20);
-    opened(&[1, 3], 20);
-    opened(&[0, 4], 20);
-    opened(&[5, 4], 20);
-    opened(&[1, 4, 1, 4, 1, 40], 20);
+fn faulty_servers(rt: &impl Print) {
+    say::line(rt, b"a faulty server");
+    opened(rt, &[1, 0], 20);
+    opened(rt, &[1, 3], 20);
+    opened(rt, &[0, 4], 20);
+    opened(rt, &[5, 4], 20);
+    opened(rt, &[1, 4, 1, 4, 1, 40], 20);
 }
 
 // 5 at its edge, and 4 before it.
-fn shares() {
-    say::line(b"shares of 20 and of 21");
-    opened(&[1, 4, 3, 10, 9, 20], 20);
-    opened(&[1, 4, 3, 10, 10, 20], 20);
-    say::line(b"a faulty server behind shares that are too large");
-    opened(&[20, 20, 20, 20, 0, 20], 20);
-    say::line(b"the largest numbers");
+fn shares(rt: &impl Print) {
+    say::line(rt, b"shares of 20 and of 21");
+    opened(rt, &[1, 4, 3, 10, 9, 20], 20);
+    opened(rt, &[1, 4, 3, 10, 10, 20], 20);
+    say::line(rt, b"a faulty server behind shares that are too large");
+    opened(rt, &[20, 20, 20, 20, 0, 20], 20);
+    say::line(rt, b"the largest numbers");
     let most = 18446744073709551615;
-    opened(&[most, most], 20);
+    opened(rt, &[most, most], 20);
 }
 
 // 5 at its edge with the longest frame: full, and a tick over at the first, the middle and the last server; 4 behind an overrun.
-fn longest_frame() {
-    say::line(b"H 604800: full, and a tick over at the first, the middle and the last server");
-    opened(&[201600, 604800, 201600, 604800, 1, 3], 604800);
-    opened(&[201601, 604800, 201600, 604800, 1, 3], 604800);
-    opened(&[201600, 604800, 201601, 604800, 1, 3], 604800);
-    opened(&[1, 3, 201600, 604800, 201601, 604800], 604800);
-    say::line(b"H 604800: a faulty server behind the overrun");
-    opened(&[1, 1, 1, 604800, 1, 3, 1, 604801], 604800);
+fn longest_frame(rt: &impl Print) {
+    say::line(
+        rt,
+        b"H 604800: full, and a tick over at the first, the middle and the last server",
+    );
+    opened(rt, &[201600, 604800, 201600, 604800, 1, 3], 604800);
+    opened(rt, &[201601, 604800, 201600, 604800, 1, 3], 604800);
+    opened(rt, &[201600, 604800, 201601, 604800, 1, 3], 604800);
+    opened(rt, &[1, 3, 201600, 604800, 201601, 604800], 604800);
+    say::line(rt, b"H 604800: a faulty server behind the overrun");
+    opened(rt, &[1, 1, 1, 604800, 1, 3, 1, 604801], 604800);
 }
 
 // 64 servers, at the last of which work waits first; equal deadlines go to the lower number. 65 are too many.
-fn many_servers() {
-    say::line(b"64 servers and 65");
+fn many_servers(rt: &impl Print) {
+    say::line(rt, b"64 servers and 65");
     let mut table = [64; 128];
     budgets_of_one(&mut table);
     let moves = [63, 2, 1, TICK, 0, 1, 7, 1, 1, 5, 1, 1, TICK, 0, 4, 64, 1, 1];
-    both(&table, 64, &moves);
-    many_shares();
+    both(rt, &table, 64, &moves);
+    many_shares(rt);
     let mut longer = [64; 130];
     budgets_of_one(&mut longer);
-    opened(&longer, 64);
+    opened(rt, &longer, 64);
 }
 
 // 64 servers fill their frame. A tick over at the first, a middle and the last one; and a faulty one behind the overrun.
-fn many_shares() {
-    say::line(b"64 servers: a tick over at the first, a middle and the last server");
+fn many_shares(rt: &impl Print) {
+    say::line(
+        rt,
+        b"64 servers: a tick over at the first, a middle and the last server",
+    );
     let mut table = [64; 128];
     budgets_of_one(&mut table);
     table[0] = 2;
-    opened(&table, 64);
+    opened(rt, &table, 64);
     table[0] = 1;
     table[62] = 2;
-    opened(&table, 64);
+    opened(rt, &table, 64);
     table[62] = 1;
     table[126] = 2;
-    opened(&table, 64);
-    say::line(b"64 servers: a faulty server behind the overrun");
+    opened(rt, &table, 64);
+    say::line(rt, b"64 servers: a faulty server behind the overrun");
     table[2] = 64;
     table[126] = 0;
-    opened(&table, 64);
+    opened(rt, &table, 64);
 }
 
 // A list of pairs with every Q set to 1.
@@ -157,35 +163,36 @@ fn budgets_of_one(table: &mut [u64]) {
 }
 
 // 6 for the server and for the cost, at their edges.
-fn faulty_arrivals() {
-    say::line(b"an unknown server");
+fn faulty_arrivals(rt: &impl Print) {
+    say::line(rt, b"an unknown server");
     let most = 18446744073709551615;
-    both(&[1, 5], 5, &[1, 1, 1, most, 1, 1]);
-    say::line(b"costs out of range and in it");
-    both(&[1, 5], 5, &[0, 0, 1, 0, 604801, 1, 0, most, 1]);
-    both(&[1, 5], 5, &[0, 604800, 1, 0, 1, 1]);
+    both(rt, &[1, 5], 5, &[1, 1, 1, most, 1, 1]);
+    say::line(rt, b"costs out of range and in it");
+    both(rt, &[1, 5], 5, &[0, 0, 1, 0, 604801, 1, 0, most, 1]);
+    both(rt, &[1, 5], 5, &[0, 604800, 1, 0, 1, 1]);
 }
 
 // What a refused opening hands back takes moves too.
-fn after_a_refusal() {
-    say::line(b"moves after a refused opening");
-    both(&[1], 5, &[0, 1, 1, TICK, 0, 1]);
+fn after_a_refusal(rt: &impl Print) {
+    say::line(rt, b"moves after a refused opening");
+    both(rt, &[1], 5, &[0, 1, 1, TICK, 0, 1]);
 }
 
 // 11: a server filled to 4,294,967,295 refuses a cost of 1, and takes it again once a tick is served.
-fn full_server() {
-    say::line(b"a full server");
+fn full_server(rt: &impl Print) {
+    say::line(rt, b"a full server");
     let filled = [0, 604800, 7101, 0, 282496, 1, 0, 282495, 1, 0, 1, 1];
-    both(&[1, 5], 5, &filled);
-    say::line(b"a full server that is served");
+    both(rt, &[1, 5], 5, &filled);
+    say::line(rt, b"a full server that is served");
     let served = [0, 604800, 7101, 0, 282495, 1, TICK, 0, 1, 0, 1, 2];
-    both(&[1, 5], 5, &served);
+    both(rt, &[1, 5], 5, &served);
 }
 
 // 10: no tick beyond 2,419,200, where an arrival is still taken.
-fn clock_end() {
-    say::line(b"the end of the clock");
+fn clock_end(rt: &impl Print) {
+    say::line(rt, b"the end of the clock");
     both(
+        rt,
         &[1, 5, 2, 10],
         10,
         &[0, 3, 1, TICK, 0, 2419201, 1, 7, 1, TICK, 0, 1],

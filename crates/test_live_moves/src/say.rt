@@ -1,113 +1,119 @@
-// The answers of live moves as lines of text.
+// The answers of live moves as lines of text. A line that cannot be written is missing from the output.
 ghost use Rattle.dispatcher.specs.Within.{Within};
 
 use clock::{Length, Moment};
 use dispatcher::{Dispatcher, TickAnswer};
-use libc::STDOUT_FILENO;
 use refusal::{Refusal, Verdict};
 use server::Server;
 
-pub(crate) fn line(text: &[u8]) {
-    words(text);
-    end();
+pub(crate) fn line(rt: &impl Print, text: &[u8]) {
+    words(rt, text);
+    end(rt);
 }
 
 // A table by its frame and how many numbers it has.
-pub(crate) fn opening(frame: u64, numbers: usize, answer: Verdict) {
-    counted(b"open H ", frame);
-    counted(b", ", numbers as u64);
-    words(b" numbers: ");
-    verdict(answer);
-    end();
+pub(crate) fn opening(rt: &impl Print, frame: u64, numbers: usize, answer: Verdict) {
+    counted(rt, b"open H ", frame);
+    counted(rt, b", ", numbers as u64);
+    words(rt, b" numbers: ");
+    verdict(rt, answer);
+    end(rt);
 }
 
-pub(crate) fn arrival(now: Moment, server: usize, cost: Length, answer: Verdict, written: bool) {
+pub(crate) fn arrival(
+    rt: &impl Print,
+    now: Moment,
+    server: usize,
+    cost: Length,
+    answer: Verdict,
+    written: bool,
+) {
     if !written {
         return;
     }
-    counted(b"at ", now.tick);
-    counted(b" arrival of ", cost.ticks);
-    counted(b" at server ", server as u64);
-    words(b": ");
-    verdict(answer);
-    end();
+    counted(rt, b"at ", now.tick);
+    counted(rt, b" arrival of ", cost.ticks);
+    counted(rt, b" at server ", server as u64);
+    words(rt, b": ");
+    verdict(rt, answer);
+    end(rt);
 }
 
-pub(crate) fn tick(now: Moment, answer: TickAnswer, written: bool) {
+pub(crate) fn tick(rt: &impl Print, now: Moment, answer: TickAnswer, written: bool) {
     if !written {
         return;
     }
-    counted(b"at ", now.tick);
-    words(b" tick: ");
+    counted(rt, b"at ", now.tick);
+    words(rt, b" tick: ");
     match answer {
-        TickAnswer::Idle => words(b"idle"),
+        TickAnswer::Idle => words(rt, b"idle"),
         TickAnswer::Ran {
             server,
             deadline,
             postponed,
-        } => ran(server, deadline, postponed),
-        TickAnswer::Refused(why) => refused(why),
+        } => ran(rt, server, deadline, postponed),
+        TickAnswer::Refused(why) => refused(rt, why),
     }
-    end();
+    end(rt);
 }
 
 // The dispatcher: its frame, its clock and what each server holds.
-pub(crate) fn servers(d: Dispatcher)
+pub(crate) fn servers(rt: &impl Print, d: Dispatcher)
     requires { Within d }
 {
     let count = d.count;
-    head(d.frame, d.clock);
+    head(rt, d.frame, d.clock);
     let mut i = 0;
     while i < count {
-        server(i, d.servers[i]);
+        server(rt, i, d.servers[i]);
         i += 1;
     }
 }
 
-fn head(frame: Length, now: Moment) {
-    counted(b"H ", frame.ticks);
-    counted(b", clock ", now.tick);
-    end();
+fn head(rt: &impl Print, frame: Length, now: Moment) {
+    counted(rt, b"H ", frame.ticks);
+    counted(rt, b", clock ", now.tick);
+    end(rt);
 }
 
-fn server(i: usize, s: Server) {
-    counted(b"server ", i as u64);
-    counted(b": c ", s.remaining.ticks);
-    counted(b" d ", s.deadline.tick);
-    counted(b" w ", s.waiting.ticks);
-    end();
+fn server(rt: &impl Print, i: usize, s: Server) {
+    counted(rt, b"server ", i as u64);
+    counted(rt, b": c ", s.remaining.ticks);
+    counted(rt, b" d ", s.deadline.tick);
+    counted(rt, b" w ", s.waiting.ticks);
+    end(rt);
 }
 
-fn ran(server: usize, deadline: Moment, postponed: bool) {
-    counted(b"server ", server as u64);
-    counted(b" under ", deadline.tick);
+fn ran(rt: &impl Print, server: usize, deadline: Moment, postponed: bool) {
+    counted(rt, b"server ", server as u64);
+    counted(rt, b" under ", deadline.tick);
     if postponed {
-        words(b", postponed");
+        words(rt, b", postponed");
     }
 }
 
-fn verdict(answer: Verdict) {
+fn verdict(rt: &impl Print, answer: Verdict) {
     match answer {
-        Verdict::Accepted => words(b"accepted"),
-        Verdict::Refused(why) => refused(why),
+        Verdict::Accepted => words(rt, b"accepted"),
+        Verdict::Refused(why) => refused(rt, why),
     }
 }
 
-fn refused(why: Refusal) {
-    counted(b"refused ", refusal::number(why));
-    counted(b" at ", refusal::place(why) as u64);
+fn refused(rt: &impl Print, why: Refusal) {
+    counted(rt, b"refused ", refusal::number(why));
+    counted(rt, b" at ", refusal::place(why) as u64);
 }
 
 // Words, and the number that they lead to.
-fn counted(text: &[u8], n: u64) {
-    words(text);
-    io::print_decimal(STDOUT_FILENO, n);
+fn counted(rt: &impl Print, text: &[u8], n: u64) {
+    words(rt, text);
+    let _ = rt.print(n);
 }
 
-fn words(text: &[u8]) {
-    io::write_all(STDOUT_FILENO, text);
+fn words(rt: &impl Print, text: &[u8]) {
+    let _ = rt.write_all(text);
 }
 
-fn end() {
-    words(b"\n");
+fn end(rt: &impl Print) {
+    words(rt, b"\n");
 }

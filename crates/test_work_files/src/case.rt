@@ -36,11 +36,11 @@ pub(crate) fn end(numbers: &[u64], at: usize) -> usize
 }
 
 // Runs the case of these numbers and writes what it gives, and answers whether they are within their limits.
-pub(crate) fn play(numbers: &[u64]) -> bool {
+pub(crate) fn play(rt: &impl Print, numbers: &[u64]) -> bool {
     let mut file = room_for_file();
     let mut trace = trace_before();
     let mut finishes = finishes_before();
-    play_in(numbers, &mut file, &mut trace, &mut finishes)
+    play_in(rt, numbers, &mut file, &mut trace, &mut finishes)
 }
 
 // The contracts give the lengths, which lending the arrays needs.
@@ -63,7 +63,13 @@ fn finishes_before() -> [u32; MOST_FINISHES]
 }
 
 // The same in lent room, whose lengths are the limits of T, F and L.
-fn play_in(numbers: &[u64], file: &mut [u8], trace: &mut [u64], finishes: &mut [u32]) -> bool {
+fn play_in(
+    rt: &impl Print,
+    numbers: &[u64],
+    file: &mut [u8],
+    trace: &mut [u64],
+    finishes: &mut [u32],
+) -> bool {
     if numbers.len() < HEAD {
         return false;
     }
@@ -83,6 +89,7 @@ fn play_in(numbers: &[u64], file: &mut [u8], trace: &mut [u64], finishes: &mut [
         return false;
     }
     show_run(
+        rt,
         &numbers[HEAD..],
         &mut file[..l],
         &mut trace[..t],
@@ -92,16 +99,22 @@ fn play_in(numbers: &[u64], file: &mut [u8], trace: &mut [u64], finishes: &mut [
 }
 
 // Runs the file of these words and writes what it gives.
-fn show_run(words: &[u64], file: &mut [u8], trace: &mut [u64], finishes: &mut [u32]) {
+fn show_run(
+    rt: &impl Print,
+    words: &[u64],
+    file: &mut [u8],
+    trace: &mut [u64],
+    finishes: &mut [u32],
+) {
     lay(file, words);
     let ran = run::run(file, trace, finishes);
     let verdict = ran.verdict;
     let summaries = ran.summaries;
-    say::verdict(verdict);
-    say::segments(ran.segments);
-    say::trace(trace);
-    say::finishes(finishes);
-    say::servers(summaries);
+    say::verdict(rt, verdict);
+    say::segments(rt, ran.segments);
+    say::trace(rt, trace);
+    say::finishes(rt, finishes);
+    say::servers(rt, summaries);
 }
 
 fn lay(file: &mut [u8], words: &[u64]) {

@@ -1,79 +1,78 @@
-// What a run gives as lines of text.
-use libc::STDOUT_FILENO;
+// What a run gives as lines of text. A line that cannot be written is missing from the output.
 use refusal::{Refusal, Verdict};
 use summary::{Response, Summary};
 
-pub(crate) fn line(text: &[u8]) {
-    words(text);
-    end();
+pub(crate) fn line(rt: &impl Print, text: &[u8]) {
+    words(rt, text);
+    end(rt);
 }
 
-pub(crate) fn verdict(answer: Verdict) {
+pub(crate) fn verdict(rt: &impl Print, answer: Verdict) {
     match answer {
-        Verdict::Accepted => line(b"accepted"),
-        Verdict::Refused(why) => refused(why),
+        Verdict::Accepted => line(rt, b"accepted"),
+        Verdict::Refused(why) => refused(rt, why),
     }
 }
 
-fn refused(why: Refusal) {
-    words(b"refused");
-    number(refusal::number(why));
-    number(refusal::place(why) as u64);
-    end();
+fn refused(rt: &impl Print, why: Refusal) {
+    words(rt, b"refused");
+    number(rt, refusal::number(why));
+    number(rt, refusal::place(why) as u64);
+    end(rt);
 }
 
-pub(crate) fn segments(count: usize) {
-    words(b"segments");
-    number(count as u64);
-    end();
+pub(crate) fn segments(rt: &impl Print, count: usize) {
+    words(rt, b"segments");
+    number(rt, count as u64);
+    end(rt);
 }
 
-pub(crate) fn trace(list: &[u64]) {
-    words(b"trace");
+pub(crate) fn trace(rt: &impl Print, list: &[u64]) {
+    words(rt, b"trace");
     let mut k = 0;
     while k < list.len() {
-        number(list[k]);
+        number(rt, list[k]);
         k += 1;
     }
-    end();
+    end(rt);
 }
 
-pub(crate) fn finishes(list: &[u32]) {
-    words(b"finishes");
+pub(crate) fn finishes(rt: &impl Print, list: &[u32]) {
+    words(rt, b"finishes");
     let mut k = 0;
     while k < list.len() {
-        number(wide(list[k]));
+        number(rt, wide(list[k]));
         k += 1;
     }
-    end();
+    end(rt);
 }
 
 // A line for each record that is not blank.
-pub(crate) fn servers(records: [Summary; sizes::MOST_SERVERS]) {
+pub(crate) fn servers(rt: &impl Print, records: [Summary; sizes::MOST_SERVERS]) {
     let mut i = 0;
     while i < sizes::MOST_SERVERS {
-        server(i, records[i]);
+        server(rt, i, records[i]);
         i += 1;
     }
 }
 
-fn server(i: usize, s: Summary) {
+fn server(rt: &impl Print, i: usize, s: Summary) {
     if is_blank(s) {
         return;
     }
-    words(b"server");
-    number(i as u64);
-    words(b" arrived");
-    number(s.arrived);
-    words(b" finished");
-    number(s.finished);
+    words(rt, b"server");
+    number(rt, i as u64);
+    words(rt, b" arrived");
+    number(rt, s.arrived);
+    words(rt, b" finished");
+    number(rt, s.finished);
     let answer = s.response;
-    response(answer);
-    words(b" postponed");
-    number(s.postponed);
-    words(b" interrupted");
-    number(s.interrupted);
-    end();
+    response(rt, answer);
+    words(rt, b" postponed");
+    number(rt, s.postponed);
+    words(rt, b" interrupted");
+    number(rt, s.interrupted);
+    end(rt);
 }
 
 fn is_blank(s: Summary) -> bool {
@@ -90,32 +89,32 @@ fn is_blank(s: Summary) -> bool {
     }
 }
 
-fn response(r: Response) {
+fn response(rt: &impl Print, r: Response) {
     match r {
-        Response::Absent => words(b" total - longest -"),
-        Response::Over { total, longest } => lengths(total.ticks, longest.ticks),
+        Response::Absent => words(rt, b" total - longest -"),
+        Response::Over { total, longest } => lengths(rt, total.ticks, longest.ticks),
     }
 }
 
-fn lengths(total: u64, longest: u64) {
-    words(b" total");
-    number(total);
-    words(b" longest");
-    number(longest);
+fn lengths(rt: &impl Print, total: u64, longest: u64) {
+    words(rt, b" total");
+    number(rt, total);
+    words(rt, b" longest");
+    number(rt, longest);
 }
 
 // A blank and a number.
-fn number(n: u64) {
-    words(b" ");
-    io::print_decimal(STDOUT_FILENO, n);
+fn number(rt: &impl Print, n: u64) {
+    words(rt, b" ");
+    let _ = rt.print(n);
 }
 
-fn words(text: &[u8]) {
-    io::write_all(STDOUT_FILENO, text);
+fn words(rt: &impl Print, text: &[u8]) {
+    let _ = rt.write_all(text);
 }
 
-fn end() {
-    words(b"\n");
+fn end(rt: &impl Print) {
+    words(rt, b"\n");
 }
 
 fn wide(x: u32) -> u64 {

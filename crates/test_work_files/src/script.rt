@@ -1,6 +1,6 @@
 // The numbers of a script: decimal, with blanks and line ends between them, and comments from `#` to the end of the line.
 ghost use Rattle.std.specs.Prelude.{◌≤◌, length};
-ghost use Rattle.io.specs.Counts.{IsPrefixLen};
+ghost use Rattle.std.specs.Counts.{IsPrefixLen};
 
 // No number of a script is larger.
 const MOST: u64 = 4294967295;
