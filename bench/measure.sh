@@ -16,7 +16,7 @@ misused() {
 unset -v runs
 take_options() { # CRATE of the program that is measured, [OPTION..]
 	crate=$1
-	program=target/bin/$crate
+	program=crates/$crate/out/$crate
 	shift
 	while (($# > 0)); do
 		case $1 in
@@ -41,12 +41,12 @@ take_options() { # CRATE of the program that is measured, [OPTION..]
 set_up() { # SOURCE of the program that writes the files, [WORD]
 	. tools/toolchain.sh
 	[[ ! ${runs+said} || $runs =~ ^[1-9][0-9]*$ ]] || fail "--runs takes a count from 1 on"
-	[[ -f $program ]] || fail "no program $program; rt check $crate makes it"
+	[[ -f $program ]] || fail "no program $program; 'rt run' in crates/$crate makes it, and so does .ci/run"
 	work=$(mktemp -d)
 	trap 'rm -rf "$work"' EXIT
 	tools/plain-c "$1" "$work/make-files"
 	shift
-	(start "$work/make-files" "$work" "$@") || fail "the work files could not be written"
+	"$work/make-files" "$work" "$@" || fail "the work files could not be written"
 	headings=() programs=() words=()
 }
 
@@ -68,9 +68,9 @@ add_reports() {
 	add_plain_c "C by events" tests/plain/events.c
 }
 
-# Becomes one of the programs.
+# Becomes one of the programs; a script that goes on calls it in ( ).
 begin() { # WHICH
-	start "${programs[$1]}" ${words[$1]:+"${words[$1]}"}
+	exec "${programs[$1]}" ${words[$1]:+"${words[$1]}"}
 }
 
 # Nothing is measured of programs that do not print the same. What the first prints stays in $work/output-0.
@@ -117,11 +117,7 @@ tell_machine() {
 	local model
 	model=$({ cat /proc/cpuinfo; lscpu; } 2>/dev/null |
 		awk -F'[ \t]*: *' 'tolower($1) == "model name" && !told { told = $2 } END { print told }') || true
-	echo "machine: $machine, $(getconf _NPROCESSORS_ONLN) processors, ${model:-model not told}"
-}
-
-tell_emulator() {
-	[[ $machine == x86_64 ]] || echo "x86-64 programs run in the toolchain's emulator here: the times are the emulator's"
+	echo "machine: $(uname -m), $(getconf _NPROCESSORS_ONLN) processors, ${model:-model not told}"
 }
 
 # Lines with tabs between their parts, as a table.

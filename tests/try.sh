@@ -165,13 +165,18 @@ usual_calls() {
 
 # ---- A made-up project
 
-# make_project CRATE COMMAND..: in $made, a project of three crates, CRATE the last, with these commands and an rt that only says that it proves.
-# $run is a call of the first of them. The files changed, slow, broken and no-program there make rt do otherwise. Every program answers "the report
-# of" its input and its words, whatever it is; $first is a script that comes before that, where there is one.
+# make_project CRATE COMMAND..: in $made, a project of four crates, CRATE the last, with these commands and an rt that only says that it proves.
+# $run is a call of the first of them. The files slow, broken and no-program there make rt do otherwise, and so does a change of a source, which
+# touch_source makes; forget_all leaves nothing of what was built. Every program answers "the report of" its input and its words, whatever it is;
+# $first is a script that comes before that, where there is one.
 make_project() {
     made=$room/made
     mkdir -p "$made/tools" "$made/bin"
-    printf '# crates\nbase:\nmiddle: base   # a remark\nother: base\n%s: middle io libc\n' "$1" >"$made/crates.txt"
+    printf '# crates\nbase:\nmiddle: base   # a remark\nother: base\n%s: middle\n' "$1" >"$made/crates.txt"
+    for crate in base middle other "$1"; do
+        mkdir -p "$made/crates/$crate/src"
+        echo "// $crate" >"$made/crates/$crate/src/lib.rt"
+    done
     shift
     cp "$@" "$made/"
     cp tools/*.sh "$made/tools/"
@@ -179,26 +184,32 @@ make_project() {
     printf '#!/bin/sh\n[ ! -f "$0.first" ] || . "$0.first"\nshift\necho the report of $(cat) $*\n' >"$made/tools/x86-64"
     cat >"$made/bin/rt" <<'RT'
 #!/bin/sh
-# As rt check does: a crate is proved, or is unchanged; two at once would break each other.
-{ [ $# -eq 2 ] && [ "$1" = check ] && grep -q "^$2:" crates.txt; } || { echo "called with $*"; exit 2; }
-mkdir target/alone || { echo 'two at once'; exit 2; }
-mkdir -p target/stamp target/bin
-how='(1 s)'
-[ ! -f "target/stamp/$2" ] || how='(unchanged since it was last proved)'
-[ ! -f changed ] || how='(2 s)'
+# As rt lib and rt run do in a crate's folder: a crate is proved, or nothing is said of it where it has not changed; two at once would wait for each
+# other. The crate base never changes.
+[ "$*" != version ] || { echo 'a made-up toolchain'; exit; }
+crate=${PWD##*/}
+{ [ $# -eq 1 ] && { [ "$1" = lib ] || [ "$1" = run ]; } && [ "${PWD%/*}" = "$(cd .. && pwd)" ] && grep -q "^$crate:" ../../crates.txt; } || { echo "called with $*" >&2; exit 2; }
+[ "$1" = lib ] || exec 3>&1 >&2
+mkdir ../../target/alone || { echo 'two at once'; exit 2; }
+mkdir -p out
 cat
-echo 'rt: base proved (unchanged since it was last proved)'
-echo 'logic=proved functions=3'
-[ ! -f slow ] || sleep 1
-if [ -f broken ]; then echo 'rt: middle NOT PROVED (exit 1, 1 s)'; rmdir target/alone; exit 1; fi
-echo "rt: middle proved $how"
-echo "rt: $2 proved $how"
-: >"target/stamp/$2"
-[ -f no-program ] || { : >"target/bin/$2"; chmod +x "target/bin/$2"; }
-echo 'rt: ok, 3 crates proved'
-rmdir target/alone
+[ ! -f ../../slow ] || sleep 1
+if [ -f ../../broken ] && [ "$crate" = middle ]; then echo 'middle NOT PROVED'; echo 'logic=not-proved functions=3'; rmdir ../../target/alone; exit 1; fi
+if [ "$crate" != base ] && ! { cat ../base/src/* src/* | cmp -s - out/stamp && { [ "$1" = lib ] || [ -f "out/$crate" ]; }; }; then
+    echo "logic=proved functions=3"
+    cat ../base/src/* src/* >out/stamp
+fi
+rmdir ../../target/alone
+[ "$1" = run ] || exit 0
+[ -f ../../no-program ] || { : >"out/$crate"; chmod +x "out/$crate"; }
+echo "rt: running out/$crate; to give it other input, run that file yourself"
+echo 'what it writes of nothing' >&3
+echo "$crate: it was given nothing"
+exit 3
 RT
     chmod +x "$made/bin/rt" "$made/tools/x86-64"
     run="echo a file | PATH='$made/bin':\$PATH '$made/$1'"
     first=$made/tools/x86-64.first
 }
+touch_source() { echo '// more' >>"$made/crates/$1/src/lib.rt"; } # CRATE
+forget_all() { rm -rf "$made/target" "$made"/crates/*/out; }

@@ -19,7 +19,7 @@
 #     take_call "$@"                   the call is sound, and its words are in file and second
 #     open_work                        standard input is what the program reads
 #     check_file "$second"             a file that the program opens by itself can be read
-#     build CRATE TIME                 the program target/bin/CRATE is there, built of these very sources
+#     build CRATE TIME                 the program of the crate is there, built of these very sources
 #     take_output CRATE [WORD..]       all that it writes is in $output
 #     give_output                      and on standard output
 #
@@ -92,8 +92,11 @@ open_work() {
 
 # ---- The program
 
-# One build at a time, whichever command asks for it, since rt keeps no two apart. The lock is a link that names the process that holds it
-# and its command, made in one step.
+# shellcheck source=tools/built.sh
+. "$here/tools/built.sh"
+
+# One build at a time, whichever command asks for it: a second would only wait for the first, crate by crate. The lock is a link that names the
+# process that holds it and its command, made in one step.
 lock=$target/build.lock
 
 take_lock() {
@@ -126,84 +129,92 @@ take_lock() {
     done
 }
 
-# 'rt check' is what tells whether the program is built of these very sources: where nothing has changed it answers in
-# well under a second and proves nothing again.
+# The program is there and is built of these very sources where a note of the gate or of an earlier call says so, or else where rt does.
 build() { # CRATE TIME that it takes from nothing
     command -v rt >/dev/null || stop 'the Rattle toolchain is missing: there is no command rt'
-    program=$target/bin/$1
+    program=$(program_of "$1")
     mkdir -p "$target" 2>/dev/null
     if [ -w "$target" ]; then
         take_lock
         trap 'rm -f "$lock"' EXIT
         trap 'exit 1' HUP INT TERM
-        prove "$1" "$2"
+        is_built "$1" || prove "$1" "$2"
         rm -f "$lock"
         trap - EXIT HUP INT TERM
     else
-        [ -x "$program" ] || stop "the program is not built, and $target, where it is built, cannot be written" 1
-        say "$target cannot be written: the program there is run as it is, and not checked against the sources"
+        [ -x "$program" ] || stop "the program is not built, and $target, where its builds are noted, cannot be written" 1
+        say "$target cannot be written: the program is run as it is, and not checked against the sources"
     fi
 }
 
 prove() { # CRATE TIME
     # The crates that the program is proved from, itself included.
-    crates=$(awk -v program="$1" '
-        function reach(n,    a, k, m) {
-            if (!(n in needs) || (n in seen)) return
-            seen[n]
-            total++
-            m = split(needs[n], a, " ")
-            for (k = 1; k <= m; k++) reach(a[k])
-        }
-        { sub(/#.*/, ""); i = index($0, ":"); if (!i) next; n = substr($0, 1, i - 1); gsub(/[ \t]/, "", n); needs[n] = substr($0, i + 1) }
-        END { reach(program); print total + 0 }' "$here/crates.txt") || stop 'crates.txt cannot be read' 1
+    crates=$(crates_of "$1") || stop 'crates.txt cannot be read' 1
+    count=$(printf '%s\n' "$crates" | wc -l | tr -d ' ')
+    sources=$(sources_sum "$1")
 
-    # rt's stamp of a crate says that it is proved, and rt then takes it for done, whether or not its program is still
-    # there. It is read for the words alone, "not built yet" or "have changed"; rt itself judges what is to be proved.
-    stamp=$target/stamp/$1
-    [ -x "$program" ] || rm -f "$stamp"
-    if [ -f "$stamp" ]; then
+    # For the words alone, "not built yet" or "have changed"; rt itself judges what is to be proved.
+    if [ -x "$program" ] && { [ -f "$target/built/$1" ] || [ -f "$program.stamp" ]; }; then
         news='the sources have changed since the program was built: proving what has changed'
     else
-        say "the program is not built yet: proving its $crates crates and building it; from nothing this takes $2, and it happens once"
+        say "the program is not built yet: proving its $count crates and building it; from nothing this takes $2, and it happens once"
         news=
     fi
 
     log=$target/$name.log
     rm -f "$log" 2>/dev/null
     ( : >"$log" ) 2>/dev/null || stop "$log cannot be written, and what rt says is kept there" 1
-    # In a plain locale: with gawk as awk and a UTF-8 one rt's own command prints a complaint in place of what it says of a crate.
+    # Each crate in its own folder: its library, or the program, which rt starts once it is built. It gets nothing to read, and what it then writes
+    # is not wanted. Nothing is said of a crate that has not changed.
     {
-        (cd "$here" && LC_ALL=C && export LC_ALL && exec rt check "$1") </dev/null 2>&1
-        echo "rt ended with status $?"
+        for crate in $crates; do
+            began=$(date +%s)
+            if [ "$crate" = "$1" ]; then
+                (cd "$here/crates/$crate" && LC_ALL=C && export LC_ALL && exec rt run) </dev/null 2>&1 >/dev/null
+            else
+                (cd "$here/crates/$crate" && LC_ALL=C && export LC_ALL && exec rt lib) </dev/null 2>&1
+            fi
+            ended=$?
+            printf '\nrt ended with status %s after %s s in crates/%s\n' "$ended" "$(($(date +%s) - began))" "$crate"
+            [ "$ended" -eq 0 ] || break
+        done
     } | {
-        proved=0 ended=1
+        proved=0 ended=1 is_new='' is_run=''
         while IFS= read -r line; do
             printf '%s\n' "$line" >&3
             case $line in
-            'rt: '*' proved (unchanged since it was last proved)') proved=$((proved + 1)) ;;
-            'rt: '*' proved ('*)
+            'logic=proved '*) is_new=yes ;;
+            "rt: running out/$1;"*) is_run=yes ;;
+            'rt ended with status '*' in crates/'*)
+                ended=${line#rt ended with status } took=${line##* after }
+                ended=${ended%% *} took=${took%% in *} crate=${line##*/}
+                # From there on the status is the program's own.
+                [ "$crate" != "$1" ] || [ -z "$is_run" ] || ended=0
+                [ "$ended" -eq 0 ] || break
                 proved=$((proved + 1))
-                [ -z "$news" ] || say "$news"
-                news=
-                line=${line#rt: }
-                say "proved $proved of $crates: ${line%% *} ${line##* proved }"
+                if [ -n "$is_new" ]; then
+                    [ -z "$news" ] || say "$news"
+                    news='' is_new=''
+                    say "proved $proved of $count: $crate ($took)"
+                fi
                 ;;
-            'rt ended with status '*) ended=${line##* } ;;
             esac
         done
+        [ "$ended" -ne 0 ] || [ "$proved" -eq "$count" ] || ended=1
         exit "$ended"
     } 3>"$log"
     ended=$?
     [ "$ended" -eq 0 ] || stop "the program could not be proved and built (rt ended with status $ended); $log has what it said" 1
     [ -x "$program" ] || stop "the program is proved, but $program is missing; $log has what rt said" 1
+    # Sources that changed meanwhile are for the next call.
+    [ "$(sources_sum "$1")" != "$sources" ] || note_built "$1" "$sources"
 }
 
 # ---- What the program writes
 
-# A proved program ends with status 0 whatever it meets, and says on standard error what went wrong, in a line that begins
-# with its name; a loader or an emulator may say something there too. So its output is taken whole before any of it is
-# printed. What is said comes through a pipe: a file for it would be lost where the output's own file finds no room.
+# What went wrong a program says on standard error, in a line that begins with its name, whatever its status then is; a loader may say something
+# there too. So its output is taken whole before any of it is printed. What is said comes through a pipe: a file for it would be lost where the
+# output's own file finds no room.
 take_output() { # CRATE [WORD..]
     crate=$1
     shift
@@ -211,12 +222,14 @@ take_output() { # CRATE [WORD..]
     trap 'rm -rf "$room"' EXIT
     trap 'exit 1' HUP INT TERM
     output=$room/output
-    said=$("$here/tools/x86-64" "$target/bin/$crate" "$@" 2>&1 >"$output")
+    said=$("$here/tools/x86-64" "$program" "$@" 2>&1 >"$output")
     ended=$?
     [ -z "$said" ] || printf '%s\n' "$said" >&2
-    [ "$ended" -eq 0 ] || stop "the program could not be started or was ended from outside (status $ended): there is no $gives" 1
     case $(printf '%s\n' "$said" | sed -n "s/^$crate: //p") in
-    '') [ -s "$output" ] || stop "the program ended without a $gives and without a reason" 1 ;;
+    '')
+        [ "$ended" -eq 0 ] || stop "the program could not be started or was ended from outside (status $ended): there is no $gives" 1
+        [ -s "$output" ] || stop "the program ended without a $gives and without a reason" 1
+        ;;
     *' written'*) stop "the $gives could not be kept in the temporary folder $room; is ${TMPDIR:-/tmp} full?" 1 ;;
     *) stop "the $takes could not be read" ;;
     esac
