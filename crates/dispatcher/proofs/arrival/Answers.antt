@@ -39,8 +39,8 @@ module _ (d : Dispatcher) (ok : Within d) (i : ℕ) (cost : Length) {test : Bool
 pub returns-then-is_faulty : goal.returns-then-is_faulty
 returns-then-is_faulty c =
     let both =
-        and_within (arrival_within c.requires _ _)
-        (sym (arrival_faulty _ _ _ (sym c.is_faulty.ensures ∙ c.if-is_faulty.true))) in
+    and_within (arrival_within c.requires _ _)
+    (sym (arrival_faulty _ _ _ (sym c.is_faulty.ensures ∙ c.if-is_faulty.true))) in
     record { result_value = both.0; within = both.1 }
 
 pub server_at-s-requires : goal.server_at-s-requires
@@ -56,10 +56,10 @@ returns-then-s-cost c =
     let fault = no_fault a.d c.requires a.server a.cost c.is_faulty.ensures c.if-is_faulty.false in
     let here = ranged a.d c.requires a.server a.cost c.is_faulty.ensures c.if-is_faulty.false _ c.server_at-s.ensures in
     let both =
-        and_within (arrival_within c.requires _ _)
-        (sym
-        (arrival_too_much a.d a.server a.cost fault
-        (rw (sym c.server_at-s.ensures) (omega (arith, c.if-s-cost.true, here.waiting))))) in
+    and_within (arrival_within c.requires _ _)
+    (sym
+    (arrival_too_much a.d a.server a.cost fault
+    (rw (sym c.server_at-s.ensures) (omega (arith, c.if-s-cost.true, here.waiting))))) in
     record { result_value = both.0; within = both.1 }
 
 pub with_server-taken-requires : goal.with_server-taken-requires
@@ -72,11 +72,11 @@ returns c =
     let here = ranged a.d c.requires a.server a.cost c.is_faulty.ensures c.if-is_faulty.false _ c.server_at-s.ensures in
     let room = fits a.d c.requires a.server a.cost c.is_faulty.ensures c.if-is_faulty.false _ c.server_at-s.ensures c.if-s-cost.false in
     let both =
-        and_within (arrival_within c.requires _ _)
-        (rw (
-          c.with_server-taken.ensures,
-          c.take.ensures ∙ arrival_ranged here c.requires.clock a.cost room,
-          c.server_at-s.ensures,
-        )
-        (sym (arrival_whole a.d a.server a.cost fault (rw (sym c.server_at-s.ensures) room)))) in
+    and_within (arrival_within c.requires _ _)
+    (rw (
+      c.with_server-taken.ensures,
+      c.take.ensures ∙ arrival_ranged here c.requires.clock a.cost room,
+      c.server_at-s.ensures,
+    )
+    (sym (arrival_whole a.d a.server a.cost fault (rw (sym c.server_at-s.ensures) room)))) in
     record { result_value = both.0; within = both.1 }

@@ -32,9 +32,9 @@ run-requires c =
 pub returns-then-i-d : goal.returns-then-i-d
 returns-then-i-d c =
     let both =
-        and_within (tick_within c.requires)
-        (c.run.ensures
-        ∙ rw c.pick-i.ensures (sym (tick_ran _ c.if-d-eq-CLOCK_END.false (chosen c.args.d c.pick-i.ensures c.if-i-d.true)))) in
+    and_within (tick_within c.requires)
+    (c.run.ensures
+    ∙ rw c.pick-i.ensures (sym (tick_ran _ c.if-d-eq-CLOCK_END.false (chosen c.args.d c.pick-i.ensures c.if-i-d.true)))) in
     record { result_value = both.0; within = both.1 }
 
 pub pass-requires : goal.pass-requires
@@ -43,6 +43,6 @@ pass-requires c = before_end c.requires c.if-d-eq-CLOCK_END.false
 pub returns : goal.returns
 returns c =
     let both =
-        and_within (tick_within c.requires)
-        (c.pass.ensures ∙ sym (tick_idle _ c.if-d-eq-CLOCK_END.false (none_chosen c.args.d c.pick-i.ensures c.if-i-d.false))) in
+    and_within (tick_within c.requires)
+    (c.pass.ensures ∙ sym (tick_idle _ c.if-d-eq-CLOCK_END.false (none_chosen c.args.d c.pick-i.ensures c.if-i-d.false))) in
     record { result_value = both.0; within = both.1 }

@@ -11,7 +11,7 @@ use Rattle.workfile.specs.Work.{work_under}
 use Rattle.listing.proofs.sheet_of.Given as goal
 
 abbrev pub invariant-loop-k : goal.invariant-loop-k
-invariant-loop-k l = 
+invariant-loop-k l =
     (l.k ≤ most_servers) × (l.bookings ≡ places most_servers (filled (work_under l.h l.file).table.booking (booked 0 0) l.k))
 
 abbrev pub decreases-loop-k : goal.decreases-loop-k

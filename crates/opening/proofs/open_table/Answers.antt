@@ -13,14 +13,14 @@ pub returns-in-Accepted : goal.returns-in-Accepted
 returns-in-Accepted c =
     let told = ap on_paper c.in-Accepted.is in
     let both =
-        and_within (opening_within _ _)
-        (rw (told, c.start-dispatcher.ensures) (sym (opening_accepted _ _ (sym c.judge-answer.ensures ∙ told)))) in
+    and_within (opening_within _ _)
+    (rw (told, c.start-dispatcher.ensures) (sym (opening_accepted _ _ (sym c.judge-answer.ensures ∙ told)))) in
     record { result_value = both.0; within = both.1 }
 
 pub returns-in-Refused : goal.returns-in-Refused
 returns-in-Refused c =
     let told = ap on_paper c.in-Refused.is in
     let both =
-        and_within (opening_within _ _)
-        (rw (told, c.no_servers-dispatcher.ensures) (sym (opening_refused _ _ _ _ (sym c.judge-answer.ensures ∙ told)))) in
+    and_within (opening_within _ _)
+    (rw (told, c.no_servers-dispatcher.ensures) (sym (opening_refused _ _ _ _ (sym c.judge-answer.ensures ∙ told)))) in
     record { result_value = both.0; within = both.1 }

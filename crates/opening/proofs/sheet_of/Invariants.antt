@@ -13,7 +13,7 @@ use Rattle.opening.proofs.OpeningLaws.{in_range, listed_behind}
 use Rattle.opening.proofs.sheet_of.Given as goal
 
 abbrev pub invariant-loop-k : goal.invariant-loop-k
-invariant-loop-k l = 
+invariant-loop-k l =
     (l.k ≤ length l.table / 2) × (l.bookings ≡ places most_servers (filled (listed l.table).booking (booked 0 0) l.k))
 
 abbrev pub decreases-loop-k : goal.decreases-loop-k

@@ -13,7 +13,7 @@ use Rattle.opening.specs.Opening.{listed}
 use Rattle.opening.proofs.start.Given as goal
 
 abbrev pub invariant-loop-k : goal.invariant-loop-k
-invariant-loop-k l = 
+invariant-loop-k l =
     (l.k ≤ length l.table / 2) × (l.servers ≡ places most_servers (start_at (first_of (listed l.table).booking l.k)))
 
 abbrev pub decreases-loop-k : goal.decreases-loop-k

@@ -23,11 +23,12 @@ pub returns : goal.returns
 returns t c =
     let one = byte_as _ c.last_digit-2.ensures c.add_byte-at.ensures in
     let tenth : page c.add_byte-at.new.text c.add_byte-at.result ≡ added (decimal (c.args.n / 10)) (page c.args.text.now c.args.next) =
-        elim c.if-tenth-ge10.branch [
-        then-tenth-ge10 w ↦
-            added_as _ (sym (decimal_more _ w.if-tenth-ge10.true))
-            (added_then _ _ _ (ap₂ page w.text-is w.at-is ∙ w.add_number-at.ensures) one)
-        | else-tenth-ge10 w ↦
-            added_as _ (sym (decimal_one _ w.if-tenth-ge10.false)) (one ∙ ap (added _) (ap₂ page w.text-is w.at-is)) ] in
+    elim c.if-tenth-ge10.branch [
+      | then-tenth-ge10 w ↦
+          added_as _ (sym (decimal_more _ w.if-tenth-ge10.true))
+          (added_then _ _ _ (ap₂ page w.text-is w.at-is ∙ w.add_number-at.ensures) one)
+      | else-tenth-ge10 w ↦
+          added_as _ (sym (decimal_one _ w.if-tenth-ge10.false)) (one ∙ ap (added _) (ap₂ page w.text-is w.at-is))
+    ] in
     added_as _ (sym (decimal_more _ c.if-n-lt10.false))
     (added_then _ _ _ tenth (byte_as _ c.last_digit-3.ensures c.add_byte-2.ensures))

@@ -8,7 +8,7 @@ use Rattle.page.proofs.PageLaws.{added_none, added_next, added_all, added_kept}
 use Rattle.text.proofs.add.Given as goal
 
 abbrev pub invariant-loop-k : goal.invariant-loop-k
-invariant-loop-k l = 
+invariant-loop-k l =
     (l.k ≤ length l.bytes) × (page l.text l.at ≡ added (take l.k l.bytes) (page l.initial.text l.next))
 
 abbrev pub decreases-loop-k : goal.decreases-loop-k

@@ -29,12 +29,13 @@ loop-i-preserved c =
       so_far =
           rw add-one
           (elim c.if-at-least.branch [
-          then-at-least w ↦
-              rw (w.best-is, w.least-is, due)
-              (takes_over d c.requires turn.i here turn.best turn.least.tick turn.invariant.so_far (rw due at w.if-at-least.true))
-          | else-at-least w ↦
-              rw (w.best-is, w.least-is)
-              (stays d c.requires turn.i here turn.best turn.least.tick turn.invariant.so_far (rw due at w.if-at-least.false)) ]);
+            | then-at-least w ↦
+                rw (w.best-is, w.least-is, due)
+                (takes_over d c.requires turn.i here turn.best turn.least.tick turn.invariant.so_far (rw due at w.if-at-least.true))
+            | else-at-least w ↦
+                rw (w.best-is, w.least-is)
+                (stays d c.requires turn.i here turn.best turn.least.tick turn.invariant.so_far (rw due at w.if-at-least.false))
+          ]);
     }
 
 pub returns : goal.returns
