@@ -10,6 +10,7 @@ use clock::Moment;
 use server::Server;
 
 // The number of the server with the earliest deadline among those with work, the lowest of several; the count where none has work.
+#[tactic(auto, using(crate::proofs::SofarLaws::takes_over, crate::proofs::SofarLaws::stays))]
 pub(crate) fn pick(d: Dispatcher) -> usize
     requires { Within d }
     ensures { result ≡ picked d }
