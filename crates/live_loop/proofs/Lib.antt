@@ -1,6 +1,4 @@
-mod Walk
-pub mod Lending
-pub mod LentMoves
+pub mod InEveryModel
 pub mod Promises
 pub mod RefusedLaws
 pub mod TwoForms

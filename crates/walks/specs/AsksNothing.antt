@@ -1,5 +1,5 @@
--- What a function over a struct that holds a reference, or over a reference to a struct, asks of its caller: the check reads no premise of it
--- that a law could name, so the law is of its clauses, in every model.
+-- What a function over a struct that holds a reference, or over a reference to a struct, asks of its caller, whatever the check reads of its
+-- premise: the law is of its clauses, in every model.
 use seplogic.Ra.Ura.{Ura}
 use base.Logic.{SProp, ent}
 use contract.Lifetimes.{Lfts}

@@ -1,6 +1,5 @@
--- One outcome of a function over a struct that holds a reference, or over a reference to a struct. The check reads no promise of such a
--- function that a law could name, so the law is of its clauses, which it has in every model of the logic: what they ensure gives a claim,
--- and the claim allows one outcome.
+-- One outcome of a function over a struct that holds a reference, or over a reference to a struct, whatever the check reads of its promise:
+-- the law is of its clauses, which it has in every model of the logic. What they ensure gives a claim, and the claim allows one outcome.
 use seplogic.Ra.Ura.{Ura}
 use base.Logic.{SProp, ent}
 use contract.Lifetimes.{Lfts}
