@@ -29,10 +29,11 @@ unfolding work
 held file e = ap (λ (h : Header). min h.servers.count most_servers) e
 
 pub of_arrivals-requires : goal.of_arrivals-requires
-of_arrivals-requires c = (
-  c.least-servers.ensures,
-  few _ c.header_of-h.ensures (λ i. omega (arith, c.shared_slice_known-1.given i)),
-)
+of_arrivals-requires c =
+    record {
+      servers_value = c.least-servers.ensures;
+      count_le_open_job = few _ c.header_of-h.ensures (λ i. omega (arith, c.type_inv.file i));
+    }
 
 pub fill-requires : goal.fill-requires
 fill-requires c = omega (arith, c.least-servers.ensures)

@@ -17,8 +17,8 @@ overflow_add-result c =
 
 pub returns : goal.returns
 returns c =
-    let parts = c.before-1.given.0 in
+    let total = c.in-Over.total in
     let lasted = c.args.lasted in
     rw c.in-Over.is
-    (ap (λ (n : ℕ). Over (ticks (parts.0.ticks + lasted.ticks)) (ticks n)) c.longer.ensures
-    ∙ sym (with_response_more parts.0 parts.1.0 lasted.ticks))
+    (ap (λ (n : ℕ). Over (ticks (total.ticks + lasted.ticks)) (ticks n)) c.longer.ensures
+    ∙ sym (with_response_more total c.in-Over.longest lasted.ticks))
