@@ -23,14 +23,14 @@ returns-then-written-n c =
     ∙ ap (turned_on (segment_book a.list.now a.c) a.t.tick a.i a.s) c.if-written-n.true
 
 -- Where not every budget is written, some are skipped, and one is written.
-some : {written n most : ℕ} → written ≡ min n most → (written ≡ n → ⊥) → written < n
-some least other = omega (arith, least)
+some : (written n most : ℕ) → written ≡ min n most → (written ≡ n → ⊥) → written < n
+some written n most least other = omega (arith, least)
 
-one : {written n most : ℕ} → written ≡ min n most → (written ≡ n → ⊥) → 1 ≤ most → 1 ≤ written
-one least other most = omega (arith, least)
+one : (written n most : ℕ) → written ≡ min n most → (written ≡ n → ⊥) → 1 ≤ most → 1 ≤ written
+one written n most least other lower = omega (arith, least)
 
 pub overflow_sub-n : goal.overflow_sub-n
-overflow_sub-n c = omega (arith, some c.lesser-written.ensures c.if-written-n.false)
+overflow_sub-n c = omega (arith, some _ _ _ c.lesser-written.ensures c.if-written-n.false)
 
 pub overflow_add-current : goal.overflow_add-current
 overflow_add-current c =
@@ -38,7 +38,7 @@ overflow_add-current c =
     omega (
       arith,
       budgets_few c.requires.budgets_from,
-      some c.lesser-written.ensures c.if-written-n.false,
+      some _ _ _ c.lesser-written.ensures c.if-written-n.false,
       ap (λ (x : SegmentBook). x.current.count) c.pass_each-current.ensures,
       (on_bounded a.i a.s c.lesser-written.result c.requires.bounded).counted,
     )
@@ -46,7 +46,7 @@ overflow_add-current c =
 pub last_of-requires : goal.last_of-requires
 last_of-requires c =
     let a = c.args in
-    let whole : a.n ≡ suc (a.n - 1) = omega (arith, some c.lesser-written.ensures c.if-written-n.false) in
+    let whole : a.n ≡ suc (a.n - 1) = omega (arith, some _ _ _ c.lesser-written.ensures c.if-written-n.false) in
     subst (BudgetsFrom a.t.tick a.i a.s) whole c.requires.budgets_from
 
 pub returns : goal.returns
@@ -54,8 +54,8 @@ returns c =
     let a = c.args in
     let may = c.requires.budgets_from in
     let written = c.lesser-written.result in
-    let less = some c.lesser-written.ensures c.if-written-n.false in
-    let least = one c.lesser-written.ensures c.if-written-n.false c.until_full.ensures.lower_bound in
+    let less = some _ _ _ c.lesser-written.ensures c.if-written-n.false in
+    let least = one _ _ _ c.lesser-written.ensures c.if-written-n.false c.until_full.ensures.lower_bound in
     let before = segment_book a.list.now a.c in
     let passed = c.pass_each-current.ensures in
     let was = turned_on before a.t.tick a.i a.s written in
@@ -63,6 +63,7 @@ returns c =
     let counts = ap (λ (x : SegmentBook). x.current.count) passed in
     let skip : a.n - written ≡ suc (a.n - 1) - written = omega (arith, less) in
     let period : 1 ≤ a.s.period.ticks = omega (arith, may.able.budget, may.able.fits) in
+    let same : length c.pass_each-current.new.list ≡ length a.list.now = omega arith in
     let full : length was.list / 4 ≤ was.current.count
     = omega (
       arith,
@@ -71,7 +72,7 @@ returns c =
       c.until_full.ensures.held_bound,
       less,
       ap (λ (x : SegmentBook). length x.list / 4) passed,
-      ap (λ (n : ℕ). n / 4) c.list-1.given,
+      ap (λ (n : ℕ). n / 4) same,
     ) in
     segments_same (ap (λ (x : SegmentBook). x.list) passed)
     (c.last_of.ensures ∙ ap₂ (λ (m k : ℕ). last_of a.t.tick a.i a.s (a.n - 1) (m + k)) counts skip)

@@ -1,5 +1,5 @@
 -- `run::jobs::line_up` meets its promise: each turn puts one arrival more before those that are lined up.
-use Prim.Native.Nat.{ℕ, suc, ◌-◌, ◌<◌}
+use Prim.Native.Nat.{ℕ, suc, ◌-◌, ◌≤◌, ◌<◌}
 use lib.ListN.{get_or, set}
 use mathlib.Core.List.{List}
 use mathlib.Core.Path.{◌≡◌, sym, ap, subst, subst⁻¹, subst₂}
@@ -30,45 +30,39 @@ arrival_of-a-requires c =
     record { accepted = c.requires.accepted; k_bound = omega (arith, c.loop-k-test.true, c.loop-k.invariant.within) }
 
 -- The arrival that was read is one of the file's, so its server has a place.
-module _ (file : List ℕ) (accepted : Accepted file) (k : ℕ) (here : k < (work file).arrivals) where
-  few : k < most_arrivals
-  few = omega (arith, here, accepted.fit.arrivals)
+module _ (file : List ℕ) (accepted : Accepted file) (k : ℕ) (more : 0 < k) (within : k ≤ (work file).arrivals) where
+  few : k - 1 < most_arrivals
+  few = omega (arith, accepted.fit.arrivals)
 
-  known : ((work file).arrival k).server < most_servers
-  known = let fit = accepted.fit in omega (arith, (fit.sound k here).known, fit.servers)
+  known : ((work file).arrival (k - 1)).server < most_servers
+  known = let fit = accepted.fit in omega (arith, (fit.sound (k - 1) (omega arith)).known, fit.servers)
 
-  known_read : (a : Arrival) → a ≡ (work file).arrival k → a.server < most_servers
+  known_read : (a : Arrival) → a ≡ (work file).arrival (k - 1) → a.server < most_servers
   known_read a e = omega (arith, known, ap (λ (x : Arrival). x.server) e)
 
 pub offset_bounds-first-i : goal.offset_bounds-first-i
 offset_bounds-first-i c =
-    let here : c.loop-k.k - 1 < (work c.args.file.now).arrivals = omega (arith, c.loop-k-test.true, c.loop-k.invariant.within) in
-    omega (arith, known_read c.args.file.now c.requires.accepted _ here c.arrival_of-a.result c.arrival_of-a.ensures)
+    omega (arith, known_read c.args.file.now c.requires.accepted c.loop-k.k c.loop-k-test.true c.loop-k.invariant.within c.arrival_of-a.result c.arrival_of-a.ensures)
 
 pub bounds-first-i : goal.bounds-first-i
 bounds-first-i c =
-    let here : c.loop-k.k - 1 < (work c.args.file.now).arrivals = omega (arith, c.loop-k-test.true, c.loop-k.invariant.within) in
-    known_read c.args.file.now c.requires.accepted _ here c.arrival_of-a.result c.arrival_of-a.ensures
+    known_read c.args.file.now c.requires.accepted c.loop-k.k c.loop-k-test.true c.loop-k.invariant.within c.arrival_of-a.result c.arrival_of-a.ensures
 
 pub offset_bounds-behind-k : goal.offset_bounds-behind-k
 offset_bounds-behind-k c =
-    let here : c.loop-k.k - 1 < (work c.args.file.now).arrivals = omega (arith, c.loop-k-test.true, c.loop-k.invariant.within) in
-    omega (arith, few c.args.file.now c.requires.accepted _ here)
+    omega (arith, few c.args.file.now c.requires.accepted c.loop-k.k c.loop-k-test.true c.loop-k.invariant.within)
 
 pub bounds-behind-k : goal.bounds-behind-k
 bounds-behind-k c =
-    let here : c.loop-k.k - 1 < (work c.args.file.now).arrivals = omega (arith, c.loop-k-test.true, c.loop-k.invariant.within) in
-    few c.args.file.now c.requires.accepted _ here
+    few c.args.file.now c.requires.accepted c.loop-k.k c.loop-k-test.true c.loop-k.invariant.within
 
 pub offset_bounds-first-i-in-loop-k : goal.offset_bounds-first-i-in-loop-k
 offset_bounds-first-i-in-loop-k c =
-    let here : c.loop-k.k - 1 < (work c.args.file.now).arrivals = omega (arith, c.loop-k-test.true, c.loop-k.invariant.within) in
-    omega (arith, known_read c.args.file.now c.requires.accepted _ here c.arrival_of-a.result c.arrival_of-a.ensures)
+    omega (arith, known_read c.args.file.now c.requires.accepted c.loop-k.k c.loop-k-test.true c.loop-k.invariant.within c.arrival_of-a.result c.arrival_of-a.ensures)
 
 pub bounds-first-i-in-loop-k : goal.bounds-first-i-in-loop-k
 bounds-first-i-in-loop-k c =
-    let here : c.loop-k.k - 1 < (work c.args.file.now).arrivals = omega (arith, c.loop-k-test.true, c.loop-k.invariant.within) in
-    known_read c.args.file.now c.requires.accepted _ here c.arrival_of-a.result c.arrival_of-a.ensures
+    known_read c.args.file.now c.requires.accepted c.loop-k.k c.loop-k-test.true c.loop-k.invariant.within c.arrival_of-a.result c.arrival_of-a.ensures
 
 pub loop-k-smaller : goal.loop-k-smaller
 loop-k-smaller c = omega (arith, c.loop-k-test.true)
@@ -77,17 +71,18 @@ pub loop-k-preserved : goal.loop-k-preserved
 loop-k-preserved c =
     let file = c.args.file.now in
     let l = c.loop-k in
-    let here : l.k - 1 < (work file).arrivals = omega (arith, c.loop-k-test.true, l.invariant.within) in
-    let step : l.k ≡ suc (l.k - 1) = omega (arith, c.loop-k-test.true) in
+    let more = c.loop-k-test.true in
+    let within = l.invariant.within in
+    let step : l.k ≡ suc (l.k - 1) = omega (arith, more) in
     record {
       lined =
           subst⁻¹
           (λ (i : ℕ). Lined (work file) (l.k - 1) (set l.first i (l.k - 1)) (set l.behind (l.k - 1) (get_or l.first i 0)))
           (ap (λ (a : Arrival). a.server) c.arrival_of-a.ensures)
           (lined_more (subst (λ (n : ℕ). Lined (work file) n l.first l.behind) step l.invariant.lined)
-          (few file c.requires.accepted _ here)
-          (known file c.requires.accepted _ here));
-      within = omega (arith, l.invariant.within);
+          (few file c.requires.accepted l.k more within)
+          (known file c.requires.accepted l.k more within));
+      within = omega (arith, within);
     }
 
 pub returns : goal.returns

@@ -87,8 +87,8 @@ overflow_mul-gone c =
     omega (
       arith,
       gone_few c.requires (ticks_are c.shortest-ticks.ensures) c.serve-after.ensures
-      (spare_is c.shorter-spare.ensures c.less.ensures c.less-2.ensures)
-      c.further-budgets.ensures,
+          (spare_is c.shorter-spare.ensures c.less.ensures c.less-2.ensures)
+          c.further-budgets.ensures,
     )
 
 pub overflow_add-gone : goal.overflow_add-gone
@@ -96,8 +96,8 @@ overflow_add-gone c =
     omega (
       arith,
       gone_few c.requires (ticks_are c.shortest-ticks.ensures) c.serve-after.ensures
-      (spare_is c.shorter-spare.ensures c.less.ensures c.less-2.ensures)
-      c.further-budgets.ensures,
+          (spare_is c.shorter-spare.ensures c.less.ensures c.less-2.ensures)
+          c.further-budgets.ensures,
     )
 
 pub overflow_add-result : goal.overflow_add-result
@@ -106,8 +106,8 @@ overflow_add-result c =
       arith,
       spent_once c.shortest-ticks.result.ticks c.args.s.remaining.ticks c.spent-spent.ensures,
       further_few c.requires (ticks_are c.shortest-ticks.ensures) c.serve-after.ensures
-      (spare_is c.shorter-spare.ensures c.less.ensures c.less-2.ensures)
-      c.further-budgets.ensures,
+          (spare_is c.shorter-spare.ensures c.less.ensures c.less-2.ensures)
+          c.further-budgets.ensures,
     )
 
 pub returns : goal.returns
