@@ -5,7 +5,7 @@ use mathlib.Core.List.{List, []}
 use mathlib.Core.Path.{◌≡◌, sym, ◌∙◌, ap, subst⁻¹}
 use native.Mathlib.Omega.{arith}
 use Rattle.books.proofs.Accepted.{arrivals_read, horizon_read, servers_read, fit_beside}
-use Rattle.books.proofs.Book.{Run, lent_in, standing_at, Book, book, turn_book, job_book, segment_book}
+use Rattle.books.proofs.Book.{lent_in, standing_at, book, turn_book, job_book, segment_book}
 use Rattle.books.proofs.Jobs.FinishList.{finishes_again, finishes_length}
 use Rattle.books.proofs.Jobs.Lined.{lined_follow}
 use Rattle.books.proofs.Stretches.Turns.{bounded_end}
@@ -24,149 +24,136 @@ use Rattle.trace.proofs.WrittenLaws.{written_length}
 use Rattle.trace.specs.Trace.{begun}
 use Rattle.workfile.specs.Work.{Work, work}
 use Rattle.run.proofs.travel.travel.Goals as goal
-use Rattle.run.proofs.travel.travel.Goals.{After-behind-2-1, After-to_moment-end}
+use Rattle.run.proofs.travel.travel.Goals.{After-from_start}
 
 pub open_all-requires : goal.open_all-requires
 open_all-requires c = omega (arith, arrivals_read _ c.header_of-h.ensures, c.requires.file_in_bounds)
 
 pub line_up-requires : goal.line_up-requires
-line_up-requires c = (
-  c.requires.accepted,
-  record {
-    first_is = ap (replicate most_servers) (arrivals_read _ c.header_of-h.ensures);
-    places = length-replicate {A = ℕ} most_arrivals 0;
-  },
-)
+line_up-requires c =
+    record {
+      accepted = c.requires.accepted;
+      unlined =
+          record {
+            first_is = ap (replicate most_servers) (arrivals_read _ c.header_of-h.ensures);
+            places = length-replicate {A = ℕ} most_arrivals 0;
+          };
+    }
 
 pub from_start-requires : goal.from_start-requires
 from_start-requires c = c.requires.accepted
 
--- The work, the lists, and the finish list behind `open_all`.
-abbrev its : After-behind-2-1 → Work
-its p = work p.before.before.before.before.before.before.before.before.before.before.before.before.before.before.before.before.before.before.before.before.before.before.args.file.now
+-- The work, the finish list as it was lent and behind `open_all`, and where the run stands at its start.
+abbrev its : After-from_start → Work
+its p = work p.args.file.now
 
-abbrev ends : After-behind-2-1 → List ℕ
-ends p = p.before.before.before.before.before.before.before.before.before.before.before.before.before.before.before.before.before.before.before.before.before.before.args.finishes.now
+abbrev ends : After-from_start → List ℕ
+ends p = p.args.finishes.now
 
-abbrev opened : After-behind-2-1 → List ℕ
-opened p = p.before.before.before.before.before.before.before.before.before.before.before.before.before.before.open-all.new.0
+abbrev opened : After-from_start → List ℕ
+opened p = p.open_all.new.finishes
 
-abbrev first : After-behind-2-1 → List ℕ
-first p = p.before.before.before.before.before.before.before.before.before.line-up.new.1.0
+abbrev from : After-from_start → Standing
+from p = p.from_start.result
 
-all_open : (p : After-behind-2-1) → opened p ≡ finish_list (its p).arrivals (λ k. is_open) (ends p)
+all_open : (p : After-from_start) → opened p ≡ finish_list (its p).arrivals (λ k. is_open) (ends p)
 all_open p =
-    p.before.before.before.before.before.before.before.before.before.before.before.before.before.before.open-all.ensures
-    ∙ ap (λ (m : ℕ). finish_list m (λ k. is_open) (ends p)) (arrivals_read _ p.before.before.before.before.before.before.before.before.before.before.before.before.before.before.before.before.before.before.header_of.ensures)
+    p.open_all.ensures ∙ ap (λ (m : ℕ). finish_list m (λ k. is_open) (ends p)) (arrivals_read _ p.header_of-h.ensures)
 
 -- to open every job once more changes nothing
-open_again : (p : After-behind-2-1) → opened p ≡ finish_list (its p).arrivals (λ k. is_open) (opened p)
+open_again : (p : After-from_start) → opened p ≡ finish_list (its p).arrivals (λ k. is_open) (opened p)
 open_again p =
     all_open p
     ∙ sym (finishes_again (its p).arrivals (λ k. is_open) (λ k. is_open) (ends p))
     ∙ ap (finish_list (its p).arrivals (λ k. is_open)) (sym (all_open p))
 
-long : (p : After-behind-2-1) → (its p).arrivals ≤ length (opened p)
-long p = omega (arith, ap length (all_open p), finishes_length (its p).arrivals (ends p) (λ k. is_open), p.before.before.before.before.before.before.before.before.before.before.before.before.before.before.before.before.before.before.before.before.before.before.requires.1)
+long : (p : After-from_start) → (its p).arrivals ≤ length (opened p)
+long p =
+    omega (arith, ap length (all_open p), finishes_length (its p).arrivals (ends p) (λ k. is_open), p.requires.file_in_bounds)
 
-fit : (p : After-behind-2-1) → Fit (its p) (length (opened p))
-fit p = fit_beside (length (opened p)) p.before.before.before.before.before.before.before.before.before.before.before.before.before.before.before.before.before.before.before.before.before.before.requires.0.fit (long p)
+fit : (p : After-from_start) → Fit (its p) (length (opened p))
+fit p = fit_beside (length (opened p)) p.requires.accepted.fit (long p)
 
--- how many leaves its tree has
-abbrev leaves : After-behind-2-1 → ℕ
-leaves p = p.before.before.before.before.before.before.before.before.before.before.before.before.before.before.before.before.Leaves-of.result
-
-enough : (p : After-behind-2-1) → Enough (its p).table.count (leaves p)
+-- its tree has leaves enough
+enough : (p : After-from_start) → Enough (its p).table.count p.leaves_of-leaves.result
 enough p =
-    let read = servers_read _ p.before.before.before.before.before.before.before.before.before.before.before.before.before.before.before.before.before.before.header_of.ensures in
-    subst⁻¹ (Enough (its p).table.count) (p.before.before.before.before.before.before.before.before.before.before.before.before.before.before.before.before.Leaves-of.ensures ∙ ap leaves_for read)
+    subst⁻¹ (Enough (its p).table.count) (p.leaves_of-leaves.ensures ∙ ap leaves_for (servers_read _ p.header_of-h.ensures))
     (leaves_enough (its p).table.count (fit p).servers)
 
--- Where the run stands at its start, and its book then.
-abbrev from : After-behind-2-1 → Standing
-from p = p.before.before.before.before.before.before.from_start.result
-
-abbrev lent : After-behind-2-1 → Run
-lent p = lent_in (its p) (from p).moment.tick (from p).current p.before.before.before.before.before.before.before.before.before.before.before.before.before.before.before.before.before.before.before.before.before.before.args.list.now (opened p)
-
-abbrev began : After-behind-2-1 → Book
-began p =
-    book
-    (turn_book (tree_of (leaves p) (replicate 128 last_tick)) (replicate most_servers 0) (replicate most_servers 0)
-    (segment_book p.before.before.before.before.before.before.before.before.before.before.before.before.before.before.before.before.before.before.before.before.before.before.args.list.now (from p).current))
-    (job_book (first p) (replicate most_servers 0) (opened p))
-
-starts : (p : After-behind-2-1) → Travels (lent p) (standing_at (from p)) (began p)
+starts : (p : After-from_start)
+    → Travels (lent_in (its p) (from p).moment.tick (from p).current p.args.list.now (opened p)) (standing_at (from p))
+    (book
+    (turn_book (tree_of p.leaves_of-leaves.result (replicate 128 last_tick)) (replicate most_servers 0) (replicate most_servers 0)
+    (segment_book p.args.list.now (from p).current))
+    (job_book p.line_up.new.first (replicate most_servers 0) (opened p)))
 starts p =
-    let list = p.before.before.before.before.before.before.before.before.before.before.before.before.before.before.before.before.before.before.before.before.before.before.args.list.now in
-    let lined = p.before.before.before.before.before.before.before.before.before.line-up.ensures in
+    let list = p.args.list.now in
     subst⁻¹
     (λ (s : Standing).
     Travels (lent_in (its p) s.moment.tick s.current list (opened p)) (standing_at s)
-    (book (turn_book (tree_of (leaves p) (replicate 128 last_tick)) (replicate most_servers 0) (replicate most_servers 0) (segment_book list s.current))
-    (job_book (first p) (replicate most_servers 0) (opened p))))
-    p.before.before.before.before.before.before.from_start.ensures
-    (travels_start list (opened p) (fit p) (enough p) (open_again p) lined.first_places lined.firsts)
+    (book
+    (turn_book (tree_of p.leaves_of-leaves.result (replicate 128 last_tick)) (replicate most_servers 0) (replicate most_servers 0)
+    (segment_book list s.current))
+    (job_book p.line_up.new.first (replicate most_servers 0) (opened p))))
+    p.from_start.ensures
+    (travels_start list (opened p) (fit p) (enough p) (open_again p) p.line_up.ensures.first_places p.line_up.ensures.firsts)
 
-at_horizon : (p : After-behind-2-1) → p.before.before.before.before.before.before.before.before.before.before.before.before.before.before.before.before.before.before.header_of.result.horizon.tick ≡ (its p).horizon.tick
-at_horizon p = horizon_read _ p.before.before.before.before.before.before.before.before.before.before.before.before.before.before.before.before.before.before.header_of.ensures
--- TODO to-moment-requires : tie.Need-to-moment-requires
-to-moment-requires p κs =
+-- no segment had ended when the list was lent
+none_seen : (p : After-from_start) → (lent_in (its p) (from p).moment.tick (from p).current p.args.list.now (opened p)).seen ≡ []
+unfolding begun
+none_seen p =
+    ap (λ (s : Standing). (lent_in (its p) s.moment.tick s.current p.args.list.now (opened p)).seen) p.from_start.ensures
+
+pub to_moment-end-requires : goal.to_moment-end-requires
+to_moment-end-requires c =
+    let p = (goal.at.to_moment-end-requires c).After-from_start in
     record {
-      accepted = p.before.before.before.before.before.before.before.before.before.before.before.before.before.before.before.before.before.before.before.before.before.before.requires.0;
+      accepted = c.requires.accepted;
       long = long p;
-      ahead = omega (arith, ap (λ (s : Standing). s.moment.tick) p.before.before.before.before.before.before.from_start.ensures);
-      in_time = omega (arith, at_horizon p);
-      follows = lined_follow p.before.before.before.before.before.before.before.before.before.line-up.ensures;
+      ahead = omega (arith, ap (λ (s : Standing). s.moment.tick) c.from_start.ensures);
+      in_time = omega (arith, horizon_read _ c.header_of-h.ensures);
+      follows = lined_follow c.line_up.ensures;
       travels = starts p;
     }
 
--- What the run leaves at the horizon.
-abbrev left : After-to_moment-end → Book
-left m =
-    let l = m.to-moment.new.1.1.1.1.1.1 in
-    book
-    (turn_book (tree_of (leaves m.before) l.0) l.1.0 l.1.1.0 (segment_book m.to-moment.new.1.0 m.to-moment.result.current))
-    (job_book l.1.1.1.0 l.1.1.1.1.0 m.to-moment.new.1.1.0)
-
-came : (m : After-to_moment-end) → Travels (lent m.before) (standing_at m.to-moment.result) (left m)
-came m = m.to-moment.ensures.1
-
-at_end : (m : After-to_moment-end) → (its m.before).horizon.tick ≤ m.to-moment.result.moment.tick
-at_end m = omega (arith, at_horizon m.before, ap (λ (t : Moment). t.tick) m.to-moment.ensures.0)
-
--- no segment had ended when the list was lent
-none_seen : (m : After-to_moment-end) → (lent m.before).seen ≡ []
-unfolding begun
-none_seen m =
-    ap (λ (s : Standing). (lent_in (its m.before) s.moment.tick s.current m.before.before.before.before.before.before.before.before.before.before.before.before.before.before.before.before.before.before.before.before.before.before.before.args.list.now (opened m.before)).seen)
-    m.before.before.before.before.before.before.before.from_start.ensures
-
 pub end_segment-segments-requires : goal.end_segment-segments-requires
-end_segment-segments-requires c = bounded_end (bounded (fit c.?before) (came c.?before)) (omega arith)
+end_segment-segments-requires c =
+    let p = (goal.at.end_segment-segments-requires c).After-from_start in
+    bounded_end (bounded (fit p) c.to_moment-end.ensures.travels) (omega arith)
 
--- what the run wrote over the open jobs
-finished : (m : After-to_moment-end) → (left m).jobs.finishes ≡ finish_list (its m.before).arrivals (finishes (its m.before)) (ends m.before)
-finished m =
-    let p = m.before in
-    finishes_whole (came m) (at_end m)
-    ∙ ap (finish_list (its p).arrivals (finishes (its p))) (all_open p)
+-- what a run writes over the open jobs
+again : (p : After-from_start)
+    → finish_list (its p).arrivals (finishes (its p)) (opened p) ≡ finish_list (its p).arrivals (finishes (its p)) (ends p)
+again p =
+    ap (finish_list (its p).arrivals (finishes (its p))) (all_open p)
     ∙ finishes_again (its p).arrivals (finishes (its p)) (λ k. is_open) (ends p)
+
+-- the run has come to the horizon
+at_end : (file : List ℕ) {until moment : Moment} → until.tick ≡ (work file).horizon.tick → moment ≡ until → (work file).horizon.tick ≤ moment.tick
+at_end file horizon is = omega (arith, horizon, ap (λ (t : Moment). t.tick) is)
 
 pub shape_of-list : goal.shape_of-list
 shape_of-list c =
-    ap length (c.end_segment-segments.ensures.list_after ∙ list_whole (came m) (at_end m) (none_seen m)) ∙ written_length _ c.args.list.now
+    let p = (goal.at.shape_of-list c).After-from_start in
+    let end = at_end c.args.file.now (horizon_read _ c.header_of-h.ensures) c.to_moment-end.ensures.moment_value in
+    ap length (c.end_segment-segments.ensures.list_after ∙ list_whole c.to_moment-end.ensures.travels end (none_seen p))
+    ∙ written_length _ c.args.list.now
 
 pub shape_of-finishes : goal.shape_of-finishes
 shape_of-finishes c =
-    ap length (finished m) ∙ finishes_length (its c.?before).arrivals (ends c.?before) (finishes (its c.?before))
+    let p = (goal.at.shape_of-finishes c).After-from_start in
+    let end = at_end c.args.file.now (horizon_read _ c.header_of-h.ensures) c.to_moment-end.ensures.moment_value in
+    ap length (finishes_whole c.to_moment-end.ensures.travels end ∙ again p) ∙ finishes_length (its p).arrivals (ends p) (finishes (its p))
 
 pub returns : goal.returns
 returns c =
+    let p = (goal.at.returns c).After-from_start in
+    let came = c.to_moment-end.ensures.travels in
+    let end = at_end c.args.file.now (horizon_read _ c.header_of-h.ensures) c.to_moment-end.ensures.moment_value in
     record {
-      list_is = c.end_segment-segments.ensures.list_after ∙ list_whole (came m) (at_end m) (none_seen m);
-      segments_is = c.end_segment-segments.ensures.value ∙ count_whole (came m) (at_end m) (none_seen m);
-      finishes_is = finished m;
-      postponed_is = postponed_whole (came m) (at_end m);
-      interrupted_is = interrupted_all (came m) (at_end m);
+      list_is = c.end_segment-segments.ensures.list_after ∙ list_whole came end (none_seen p);
+      segments_is = c.end_segment-segments.ensures.value ∙ count_whole came end (none_seen p);
+      finishes_is = finishes_whole came end ∙ again p;
+      postponed_is = postponed_whole came end;
+      interrupted_is = interrupted_all came end;
     }
