@@ -4,16 +4,16 @@ use mathlib.Core.Path.{refl}
 use Rattle.day_report.proofs.print_report.Goals as goal
 
 pub returns-then-not-is_ended : goal.returns-then-not-is_ended
-returns-then-not-is_ended c = inl refl
+returns-then-not-is_ended g c = inl refl
 
 pub returns-then-not-written : goal.returns-then-not-written
-returns-then-not-written c =
+returns-then-not-written g c =
     let report = c.whole_report-end in
     let read = c.read_full-length in
     inr (read.result, report.result, read.ensures.0, report.ensures.1)
 
 pub returns-else-not-written : goal.returns-else-not-written
-returns-else-not-written c =
+returns-else-not-written g c =
     let report = c.whole_report-end in
     let read = c.read_full-length in
     inr (read.result, report.result, read.ensures.0, report.ensures.1)

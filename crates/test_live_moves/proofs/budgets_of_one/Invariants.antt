@@ -1,5 +1,5 @@
 -- `test_live_moves::budgets_of_one` is safe: twice a number below half the length is below the length, which no store changes.
-use Rattle.std.proofs.Common.{◌≡◌, ◌-◌, ◌/◌, ◌≤◌, length, refl, arith, length-set, rules}
+use Rattle.std.proofs.Common.{◌≡◌, ◌-◌, ◌/◌, ◌≤◌, length}
 use Rattle.test_live_moves.proofs.budgets_of_one.Given as goal
 
 abbrev pub invariant-loop-k : goal.invariant-loop-k

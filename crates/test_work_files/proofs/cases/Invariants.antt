@@ -5,7 +5,7 @@ use native.Mathlib.Omega.{arith}
 use Rattle.test_work_files.proofs.cases.Given as goal
 
 abbrev pub invariant-loop-at : goal.invariant-loop-at
-invariant-loop-at l = Unit {0}
+invariant-loop-at g l = Unit {0}
 
 abbrev pub decreases-loop-at : goal.decreases-loop-at
-decreases-loop-at l = length l.numbers - l.at
+decreases-loop-at g l = length l.numbers - l.at

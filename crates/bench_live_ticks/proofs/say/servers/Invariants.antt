@@ -4,7 +4,7 @@ use native.Mathlib.Omega.{arith}
 use Rattle.bench_live_ticks.proofs.say.servers.Given as goal
 
 abbrev pub invariant-loop-i : goal.invariant-loop-i
-invariant-loop-i l = l.i ≤ l.d.count
+invariant-loop-i g l = l.i ≤ l.d.count
 
 abbrev pub decreases-loop-i : goal.decreases-loop-i
-decreases-loop-i l = l.d.count - l.i
+decreases-loop-i g l = l.d.count - l.i

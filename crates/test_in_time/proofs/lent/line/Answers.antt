@@ -3,6 +3,6 @@ use Rattle.test_in_time.proofs.LiveLaws.{live_allowed}
 use Rattle.test_in_time.proofs.lent.line.Goals as goal
 
 pub line-requires : goal.line-requires
-line-requires c =
+line-requires g c =
     rw c.booking_of.ensures
     (live_allowed c.requires.live _ _ c.if-i-start.true c.if-s-eq0.true c.requires.tick_le_clock_end _ c.moves.ensures)

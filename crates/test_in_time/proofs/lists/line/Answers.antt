@@ -10,20 +10,20 @@ use Rattle.test_in_time.proofs.lists.line.Goals.{After-line-arg-1}
 
 -- where both tests have held
 abbrev start : After-line-arg-1 → tie.Start
-start c = c.?before
+start g c = c.?before
 
 within_run : (c : After-line-arg-1) → in_run (start c).args.w (work (start c).args.file.now) ≡ true
-within_run c = sym c.is_in_run.ensures ∙ c.if-is_in_run.true
+within_run g c = sym c.is_in_run.ensures ∙ c.if-is_in_run.true
 
 done : (c : After-line-arg-1) → all_done (start c).args.w (work (start c).args.file.now) (start c).args.finishes.now ≡ true
-done c = sym c.is_idle.ensures ∙ c.if-is_idle.true
+done g c = sym c.is_idle.ensures ∙ c.if-is_idle.true
 
 pub got-requires : goal.got-requires
-got-requires c =
+got-requires g c =
     let left = (start at).requires.0 in
     (left.demand.in_time, run_got_fits left (start at).args.w (within_run at) (done at) (start at).requires.1)
 
 pub line-requires : goal.line-requires
-line-requires c =
+line-requires g c =
     rw (c.booking_of.ensures, c.got.ensures)
     (run_allowed (start at).requires.0 (start at).args.w (within_run at) (done at) (start at).requires.1)

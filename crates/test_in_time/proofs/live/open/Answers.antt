@@ -3,9 +3,9 @@ use Rattle.test_in_time.proofs.LiveLaws.{live_opened}
 use Rattle.test_in_time.proofs.live.open.Goals as goal
 
 pub moves-requires : goal.moves-requires
-moves-requires c =
+moves-requires g c =
     let opened = c.open_table-opened in
     live_opened _ _ opened.result opened.ensures.0 c.in-Accepted.is
 
 pub lines-requires : goal.lines-requires
-lines-requires c = moves-requires c.?before κs
+lines-requires g c = moves-requires c.?before κs

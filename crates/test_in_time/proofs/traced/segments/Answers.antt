@@ -6,12 +6,12 @@ use Rattle.callers.specs.Traces.{InTime}
 use Rattle.test_in_time.proofs.traced.segments.Goals as goal
 
 pub segment-requires : goal.segment-requires
-segment-requires c =
+segment-requires g c =
     subst⁻¹ InTime c.segment_at.ensures
     (c.requires _ (omega (arith, c.loop-k-test.true, c.held-held.ensures)))
 
 pub loop-k-smaller : goal.loop-k-smaller
-loop-k-smaller c = omega (arith, c.loop-k-test.true)
+loop-k-smaller g c = omega (arith, c.loop-k-test.true)
 
 pub loop-k-preserved : goal.loop-k-preserved
-loop-k-preserved c = omega (arith, c.loop-k-test.true)
+loop-k-preserved g c = omega (arith, c.loop-k-test.true)

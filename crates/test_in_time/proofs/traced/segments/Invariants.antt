@@ -6,7 +6,7 @@ use Rattle.callers.specs.Traces.{InTime}
 use Rattle.test_in_time.proofs.traced.segments.Given as goal
 
 abbrev pub invariant-loop-k : goal.invariant-loop-k
-invariant-loop-k l = l.k ≤ l.held
+invariant-loop-k g l = l.k ≤ l.held
 
 abbrev pub decreases-loop-k : goal.decreases-loop-k
-decreases-loop-k l = l.held - l.k
+decreases-loop-k g l = l.held - l.k

@@ -1,5 +1,5 @@
 -- `test_live_moves::script::count` is safe: while three numbers are left, the third is within the list.
-use Rattle.std.proofs.Common.{◌-◌, ◌≤◌, length, arith, rules}
+use Rattle.std.proofs.Common.{◌-◌, ◌≤◌, length}
 use Rattle.test_live_moves.proofs.script.count.Given as goal
 
 abbrev pub invariant-loop-at : goal.invariant-loop-at

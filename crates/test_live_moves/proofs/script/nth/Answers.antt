@@ -1,6 +1,5 @@
 -- `test_live_moves::script::nth` meets its promise: what is left of the list has, of what is left of the number, the move that the list has.
-use Rattle.std.proofs.Common.{◌≡◌, ◌-◌, ◌≤◌, length, drop, sym, refl, ◌∙◌, arith, rules, le-ltb, lt-ltb}
-use Rattle.test_live_moves.specs.Working.Script.{move_at}
+use Rattle.std.proofs.Common.{sym, refl, ◌∙◌, arith, le-ltb, lt-ltb}
 use Rattle.test_live_moves.proofs.ScriptLaws.{move_at_three, move_at_short}
 use Rattle.test_live_moves.proofs.script.nth.Goals as goal
 

@@ -5,10 +5,10 @@ use native.Mathlib.Omega.{arith}
 use Rattle.test_work_files.proofs.case.play_in.Goals as goal
 
 pub slice_bounds-show_run-end-3 : goal.slice_bounds-show_run-end-3
-slice_bounds-show_run-end-3 c = sym (length-take-le _ _ (omega arith))
+slice_bounds-show_run-end-3 g c = sym (length-take-le _ _ (omega arith))
 
 pub slice_bounds-show_run-end-5 : goal.slice_bounds-show_run-end-5
-slice_bounds-show_run-end-5 c = sym (length-take-le _ _ (omega arith))
+slice_bounds-show_run-end-5 g c = sym (length-take-le _ _ (omega arith))
 
 pub slice_bounds-show_run-end-7 : goal.slice_bounds-show_run-end-7
-slice_bounds-show_run-end-7 c = sym (length-take-le _ _ (omega arith))
+slice_bounds-show_run-end-7 g c = sym (length-take-le _ _ (omega arith))

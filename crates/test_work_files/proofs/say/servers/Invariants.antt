@@ -4,7 +4,7 @@ use native.Mathlib.Omega.{arith}
 use Rattle.test_work_files.proofs.say.servers.Given as goal
 
 abbrev pub invariant-loop-i : goal.invariant-loop-i
-invariant-loop-i l = Unit {0}
+invariant-loop-i g l = Unit {0}
 
 abbrev pub decreases-loop-i : goal.decreases-loop-i
-decreases-loop-i l = 64 - l.i
+decreases-loop-i g l = 64 - l.i

@@ -5,7 +5,7 @@ use native.Mathlib.Omega.{arith}
 use Rattle.test_work_files.proofs.say.trace.Given as goal
 
 abbrev pub invariant-loop-k : goal.invariant-loop-k
-invariant-loop-k l = Unit {0}
+invariant-loop-k g l = Unit {0}
 
 abbrev pub decreases-loop-k : goal.decreases-loop-k
-decreases-loop-k l = length l.list - l.k
+decreases-loop-k g l = length l.list - l.k
