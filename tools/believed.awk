@@ -7,7 +7,7 @@
 #   kind[id], name[id], home[id], line_of[id], size[id]   what it is and is called, its file, its line, its lines of code
 #   given[id], piece[id, 1 .. pieces[id]]   the parameters of the modules around it; its text, cut where a scope ends
 # A name in a file goes by (file, name): own is what the file declares; brought and alias are what its `use` lines bring of the
-# crates here, and kit what they bring of the toolchain's.
+# crates here, and kit what they bring of the toolchain's. The head of a path is read as one word, `Rattle·clock` for `Rattle.clock`.
 
 # A sentence for each thing that is wrong.
 function problem(words) {
@@ -23,19 +23,14 @@ function code(line, comment,    at) {
     at = match(" " line, "[ (]" comment)
     if (at) line = substr(line, 1, at - 1)
     sub(/ +$/, "", line)
+    gsub(/Rattle[.]/, "Rattle·", line)
     return line
 }
 
 function crate_of(file) { sub(/^crates\//, "", file); sub(/\/.*/, "", file); return file }
 
-# The crate of a module's path, by its head: `Rattle·clock`, `Rattle·clock·specs`. What is of no crate here is the kit's, and is
-# not followed.
-function crate_in(head) {
-    if (index(head, "Rattle·") != 1) return ""
-    head = substr(head, length("Rattle·") + 1)
-    sub(/·.*/, "", head)
-    return head
-}
+# The crate of a module's path, by its head. What is of no crate here is the kit's, and is not followed.
+function crate_in(head) { return index(head, "Rattle·") == 1 ? substr(head, length("Rattle·") + 1) : "" }
 function is_here(head) { return crate_in(head) in listed_crate }
 
 function thing(file, at, what, called,    id) {
@@ -65,7 +60,7 @@ function bring(file, text,    at, module, here, list, n, k, word, m, called) {
         for (k = 1; k <= n; k++) if ((m = split(list[k], word, " ")) > 0) {
             called = last_name(word[m])
             if (here) { brought[file, called] = module ".{" word[1]; uses[file] = uses[file] " " module ".{" word[1] }
-            else { gsub(/_/, "", called); kit[file, called] = module "." word[1] }
+            else { gsub(/◌/, "", called); kit[file, called] = module "." word[1] }
         }
     } else if (here) {
         m = split(module, word, " ")
@@ -121,7 +116,7 @@ function begins(file, at, text,    word, k, what) {
             sub(/^[^ ]+ +/, "", text)
         }
         if (shape == "" && word[k + 1] !~ /^([{].*|:)$/) { problem(file ":" at ": a line that this cannot read: " heading); return }
-        if (word[k] ~ /_/) problem(file ":" at ": an operator, `" word[k] "`, whose uses this cannot follow")
+        if (word[k] ~ /◌/) problem(file ":" at ": an operator, `" word[k] "`, whose uses this cannot follow")
         current = own[file, word[k]] = thing(file, at, what, word[k])
         public[current] = heading ~ /^((abbrev|unfoldable|axiom) )*pub /
         given[current] = around[depth]
@@ -154,10 +149,10 @@ function read_rt(file,    text, at, indent, state, from, id) {
         text = substr(text, indent + 1)
         if (state == "") {
             from = indent
-            if (text ~ /^pub use |^use .*[{*]/) problem(file ":" at ": a `use` line that this cannot follow: " text)
+            if (text ~ /^pub use |^use .*[*]|^use .*[{].*[{]|^use [^;]*$/) problem(file ":" at ": a `use` line that this cannot follow: " text)
             else if (text ~ /^(pub([(][a-z]+[)])? )?type /) problem(file ":" at ": another name for a type, which this cannot follow: " text)
             else if (text ~ /^ghost use /) { sub(/^ghost /, "", text); sub(/;$/, "", text); bring(file, text) }
-            else if (text ~ /^use /) { sub(/^use /, "", text); sub(/;$/, "", text); rust_use[file, last_part(text)] = text }
+            else if (text ~ /^use /) use_of_code(file, text)
             else if (text ~ /^pub mod /) { sub(/^pub mod /, "", text); sub(/;$/, "", text); opened[file, text] = 1 }
             else if (match(text, /^(pub([(][a-z]+[)])? )?(struct|enum) /)) {
                 id = thing(file, at, "type", word_from(text, RLENGTH + 1))
@@ -177,9 +172,21 @@ function read_rt(file,    text, at, indent, state, from, id) {
             if (state == "type" && indent == from + 4) variant[id, word_from(text, 1)] = 1
             if (state == "type" && indent == from && text ~ /^[}]/) state = ""
         }
-        if (state == "function" && (text == "{" || (text ~ / [{]$/ && text !~ /^(requires|ensures) /))) state = ""
+        if (state == "function" && (text == "{" || (text ~ / [{]$/ && text !~ /^(requires|ensures)[* ]/))) state = ""
     }
     close(file)
+}
+
+# `use a::b;` and `use a::{b, c::d};`
+function use_of_code(file, text,    at, head, list, n, k) {
+    sub(/^use /, "", text)
+    sub(/;$/, "", text)
+    at = index(text, "{")
+    head = at ? substr(text, 1, at - 1) : ""
+    if (at) text = substr(text, at + 1)
+    gsub(/[} ]/, "", text)
+    n = split(text, list, ",")
+    for (k = 1; k <= n; k++) if (list[k] != "") rust_use[file, last_part(list[k])] = head list[k]
 }
 
 function last_name(path) { sub(/.*[.]/, "", path); return path }
@@ -238,7 +245,7 @@ function find(what,    at, word, part, n, k, crate, file, id) {
     n = split(what, part, ".")
     crate = crate_in(part[1])
     if (part[3] == "declared") {
-        as_constructor = part[n] == "the-variants"
+        as_constructor = part[n] == "TheVariants"
         id = in_code(crate, part, 4, n - as_constructor, "declared.")
         return !as_constructor || word == "" || ((id, word) in variant) ? id : ""
     }
@@ -250,11 +257,12 @@ function find(what,    at, word, part, n, k, crate, file, id) {
         as_constructor = (file, word) in constructor
         return word == "" ? file : ((file, word) in own) ? own[file, word] : ""
     }
-    # What the check makes of a function or of a struct stands for that: `F`, `F.Reads`, `S.Laws`.
+    # What the check makes of a function or of a struct stands for that: `F`, `F.Reads`, `S.Laws`, and in `specs.contracts` its contract.
     id = ""
-    for (k = n; part[2] == "proofs" && k >= 3 && id == ""; k--) {
-        id = in_code(crate, part, 3, k, "function.")
-        if (id == "") id = in_code(crate, part, 3, k, "declared.")
+    at = part[2] == "specs" && part[3] == "contracts" ? 4 : 3
+    for (k = n; (part[2] == "proofs" || at == 4) && k >= at && id == ""; k--) {
+        id = in_code(crate, part, at, k, "function.")
+        if (id == "") id = in_code(crate, part, at, k, "declared.")
     }
     return id
 }
@@ -279,6 +287,7 @@ function rust_type(file, word,    part, n, crate) {
 # A word of the toolchain's kit, by its path, in what must be believed: the page tells what it is.
 function use_kit(file, path) {
     if (believed) return
+    if (path in kit_same) path = kit_same[path]
     kit_used[path] = 1
     if (!(path in kit_row)) problem(file ": `" path "` is a word of the kit that the page does not tell")
 }
@@ -290,25 +299,39 @@ function kit_words(module, words, written, meaning,    word, n, k) {
     kit_line[++kit_rows] = "| " written " | " meaning " |"
 }
 
-function tell_kit() {
-    kit_words("Prim.Native.Nat", "ℕ zero suc", "`ℕ`, `zero`, `suc n`", "a number, which has no bound; 0; n + 1")
-    kit_words("Prim.Native.Nat", "_+_ _*_ min max _≤_ _<_", "`m + n`, `m * n`, `min m n`, `max m n`, `m ≤ n`, `m < n`", "as in arithmetic")
-    kit_words("Prim.Native.Nat", "_-_ _/_ _%_", "`m - n`, `m / n`, `m % n`", \
+# Words of the Prelude by the path from which it passes them on: laws name some so.
+function kit_also(prelude, module, words,    word, n, k) {
+    n = split(words, word, " ")
+    for (k = 1; k <= n; k++) kit_same[module "." word[k]] = prelude "." word[k]
+}
+
+function tell_kit(    prelude) {
+    prelude = "Rattle·std.specs.Prelude"
+    kit_words(prelude, "ℕ zero suc", "`ℕ`, `zero`, `suc n`", "a number, which has no bound; 0; n + 1")
+    kit_words(prelude, "◌+◌ ◌*◌ min max ◌≤◌ ◌<◌", "`m + n`, `m * n`, `min m n`, `max m n`, `m ≤ n`, `m < n`", "as in arithmetic")
+    kit_words(prelude, "◌-◌ ◌/◌ ◌%◌", "`m - n`, `m / n`, `m % n`", \
         "`-` stops at 0, `/` rounds down, `%` is the rest; nothing rests on what the two are by 0")
-    kit_words("lib.Dec", "eqb leb ltb", "`eqb m n`, `leb m n`, `ltb m n`", "whether m = n, m ≤ n, m < n")
-    kit_words("mathlib.Core.Bool", "Bool true false not _&&_ _||_", "`Bool`, `true`, `false`, `not b`, `b && c`, `b \\|\\| c`", \
+    kit_words(prelude, "eqb leb ltb", "`eqb m n`, `leb m n`, `ltb m n`", "whether m = n, m ≤ n, m < n")
+    kit_words(prelude, "Bool true false not ◌&&◌ ◌||◌", "`Bool`, `true`, `false`, `not b`, `b && c`, `b \\|\\| c`", \
         "true or false; the other of the two; both are true, one of them is")
-    kit_words("mathlib.Core.Bool", "cond", "`cond b x y`", "x where b is true, and else y")
-    kit_words("mathlib.Core.List", "List [] _∷_ _++_", "`List A`, `[]`, `x ∷ l`, `l ++ m`", "a list; the empty one; l with x in front; l and then m")
-    kit_words("lib.ListN", "length replicate", "`length l`, `replicate n x`", "how many places a list has; a list of n times x")
-    kit_words("lib.ListN", "getD", "`getD l i x`", "what stands at place i of a list, counted from 0; x from its end on")
-    kit_words("lib.ListN", "set", "`set l i x`", "the list with x at place i; the same list from its end on")
-    kit_words("lib.ListN", "take drop", "`take n l`, `drop n l`", "the first n places, all where there are fewer; the others")
-    kit_words("Prim.Native.String", "String [] _∷_", "`String`, `end`, `c then s`", "a text; the empty one; s with the character c in front")
+    kit_words(prelude, "cond", "`cond b x y`", "x where b is true, and else y")
+    kit_words(prelude, "List [] ◌∷◌ ◌++◌", "`List A`, `[]`, `x ∷ l`, `l ++ m`", "a list; the empty one; l with x in front; l and then m")
+    kit_words(prelude, "length replicate", "`length l`, `replicate n x`", "how many places a list has; a list of n times x")
+    kit_words(prelude, "get_or", "`get_or l i x`", "what stands at place i of a list, counted from 0; x from its end on")
+    kit_words(prelude, "set", "`set l i x`", "the list with x at place i; the same list from its end on")
+    kit_words(prelude, "take drop", "`take n l`, `drop n l`", "the first n places, all where there are fewer; the others")
+    kit_words("Prim.Native.String", "String [] ◌∷◌", "`String`, `end`, `c then s`", "a text; the empty one; s with the character c in front")
     kit_words("Prim.Native.Char", "code", "`code c`", "the number of a character")
-    kit_words("mathlib.Core.Path", "_≡_", "`x ≡ y`", "x is y")
-    kit_words("mathlib.Core.Logic", "_⊎_", "`A × B`, `A ⊎ B`, `Unit`, `⊥`", "both are; one of the two is; nothing is said; it cannot be")
-    kit_words("denote.Ref", "RefT now", "`RefT A`, `now r`", "a reference to an A; what it refers to")
+    kit_words(prelude, "◌≡◌", "`x ≡ y`", "x is y")
+    kit_words(prelude, "◌⊎◌", "`A × B`, `A ⊎ B`, `Unit`, `⊥`", "both are; one of the two is; nothing is said; it cannot be")
+    kit_words("Rattle·std.specs.Borrow", "Bor", "`Bor A`, `r.now`", "a reference to an A; what it refers to")
+    kit_also(prelude, "Prim.Native.Nat", "ℕ zero suc ◌+◌ ◌*◌ min max ◌≤◌ ◌<◌ ◌-◌ ◌/◌ ◌%◌")
+    kit_also(prelude, "lib.Dec", "eqb leb ltb")
+    kit_also(prelude, "mathlib.Core.Bool", "Bool true false not ◌&&◌ ◌||◌ cond")
+    kit_also(prelude, "mathlib.Core.List", "List [] ◌∷◌ ◌++◌")
+    kit_also(prelude, "lib.ListN", "length replicate get_or set take drop")
+    kit_also(prelude, "mathlib.Core.Path", "◌≡◌")
+    kit_also(prelude, "mathlib.Core.Logic", "◌⊎◌")
 }
 
 # ---- What the text of a thing names
@@ -320,8 +343,11 @@ function is_name(word) { return word != "" && word !~ /^[(){};,@:=.]/ && word !=
 function bind(word, depth) { bound[++top] = word; bound_at[top] = depth; hidden[word]++ }
 function unbind(depth) { for (; top > 0 && bound_at[top] >= depth; top--) hidden[bound[top]]-- }
 
-# An expression or a type, from token i on. Binders are `λ x y.`, `(x y : A)` and `let x`; `.f` is a projection, and `f =` in
-# braces a label.
+# Whether a word is of something that is bound: that itself, or what is read of it, as `x.f`.
+function is_bound(word) { sub(/[.].*/, "", word); return hidden[word] }
+
+# An expression or a type, from token i on. Binders are `λ x y.`, `(x y : A)` and `let x`; `x.f` and `(..).f` are projections, and `f =`
+# in braces a label.
 function scan(by, tok, i, n,    depth, word, k, lambda) {
     depth = 0
     lambda = -1
@@ -336,7 +362,7 @@ function scan(by, tok, i, n,    depth, word, k, lambda) {
         else if (word == "λ") lambda = depth
         else if (lambda == depth && word ~ /[.]$/) { bind(substr(word, 1, length(word) - 1), depth); lambda = -1 }
         else if (lambda == depth || tok[i - 1] == "let") bind(word, depth)
-        else if (is_name(word) && !hidden[word] && !(tok[i + 1] == "=" && tok[i - 1] ~ /^[{;]$/)) reach(resolve(home[by], word), by)
+        else if (is_name(word) && !is_bound(word) && !(tok[i + 1] == "=" && tok[i - 1] ~ /^[{;]$/)) reach(resolve(home[by], word), by)
     }
 }
 
@@ -373,9 +399,12 @@ function follow(id,    k, tok, n, at, how, text) {
         how = piece_kind[id, k]
         text = piece[id, k]
         if (how == "type" || how == "function") {
-            at = match(text, / (requires|ensures) [{]/)
+            # A clause may have a name of its own, which is nothing that it says.
+            at = match(text, / (requires|ensures)[*]?( [a-z0-9_]+)? [{]/)
             scan_types(id, at ? substr(text, 1, at) : text)
             text = at ? substr(text, at) : ""
+            gsub(/ (requires|ensures)[*]?( [a-z0-9_]+)? [{]/, " {", text)
+            bind("result", 0)
         }
         n = tokens(text, tok)
         at = top
@@ -401,7 +430,7 @@ function reach(id, by,    where) {
     if (kind[id] == "function") return
     group[id] = now
     if (kind[id] == "type") return
-    where = home[id] ~ /\/specs\/working\// ? "in specs/working/" : home[id] ~ /^crates\/[^\/]*\/specs\// ? "" : "outside specs/"
+    where = home[id] ~ /\/specs\/Working\// ? "in specs/Working/" : home[id] ~ /^crates\/[^\/]*\/specs\// ? "" : "outside specs/"
     if (where != "") problem(id ": `" name[id] "` stands " where ", and `" name[by] "` (" by ") comes to it")
 }
 
@@ -425,7 +454,7 @@ function root_public(crate, what,    f, n, k, ids, some) {
     if (!(crate in listed_crate)) problem("crates.txt: there is no crate " crate)
     some = 0
     for (f = first_of[crate]; f <= last_of[crate]; f++) {
-        if (what == "law" ? file_at[f] !~ /\/proofs\/Promises[.]antt$/ : !is_public(file_at[f])) continue
+        if (what == "law" ? file_at[f] !~ /\/proofs\/(Promises|InEveryModel)[.]antt$/ : !is_public(file_at[f])) continue
         load(file_at[f])
         n = split(things[file_at[f]], ids, " ")
         for (k = 1; k <= n; k++) if (kind[ids[k]] == what && public[ids[k]]) { root(ids[k]); some++ }
@@ -484,7 +513,7 @@ function look_over(file,    n, k, ids) {
     n = split(things[file], ids, " ")
     for (k = 1; k <= n; k++) {
         if (kind[ids[k]] == "law") problem(ids[k] ": `" name[ids[k]] "` is a law, and specs/ is for definitions only")
-        else if (!(ids[k] in group) && file !~ /\/specs\/working\//)
+        else if (!(ids[k] in group) && file !~ /\/specs\/Working\//)
             problem(ids[k] ": `" name[ids[k]] "` stands in specs/, and no public contract or statement comes to it")
     }
 }
@@ -519,12 +548,13 @@ function page(    g) {
     print "Every definition that a public contract or a public statement comes to. Who has read these, the contracts and the"
     print "statements ([PROMISES.md](PROMISES.md)) knows what is promised; all the rest is checked. `tools/believed` prints this"
     print "page, and the gate fails where the two differ; where a definition is come to that does not stand in `specs/`, outside"
-    print "`specs/working/`; where one that stands there is not come to; and where what must be believed is more than " limit " lines.\n"
+    print "`specs/Working/`; where one that stands there is not come to; and where what must be believed is more than " limit " lines.\n"
     print "A definition is in the first group that comes to it. Its lines are those of its signature and its clauses, fields or"
     print "constructors, without comments and blank lines.\n"
-    print "They are written in these words of the toolchain's kit. In a contract `now (x .entry)` and `now (x .exit)` are what a"
-    print "lent x holds before and after the call, and `λ r.` is the result. (The laws of functions that are proved by walks speak"
-    print "of the kit's program logic besides.)\n"
+    print "They are written in these words of the toolchain's kit. In a contract `x.old` and `x.new` are what an x that is lent to"
+    print "be altered holds before and after the call, `x.now` is what an x that is lent to be read holds, and `result` is what the"
+    print "call answers; `t.f` is the field f of t. (The laws of functions over a struct that holds a reference speak of the kit's"
+    print "program logic besides.)\n"
     print "| In the kit | What it is |\n|---|---|"
     for (g = 1; g <= kit_rows; g++) print kit_line[g]
     print ""
@@ -586,7 +616,7 @@ END {
         problem("crates/" crate_at[c] "/proofs: there is no law that the promises of this crate allow one outcome")
     end_group()
     new_group("Worked examples", "Nor on these: the examples that were worked out by hand, and what each says of the definitions.")
-    root_law("checked_by_hand/ByHand", "all-hold", "tools/believed.awk")
+    root_law("checked_by_hand/ByHand", "all_hold", "tools/believed.awk")
     end_group()
 
     for (f = 1; f <= files; f++) if (file_at[f] ~ /\/(src|specs)\//) look_over(file_at[f])
