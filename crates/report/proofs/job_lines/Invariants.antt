@@ -14,7 +14,7 @@ use Rattle.workfile.specs.Work.{work}
 use Rattle.report.proofs.job_lines.Given as goal
 
 abbrev pub invariant-loop-k : goal.invariant-loop-k
-invariant-loop-k l = 
+invariant-loop-k l =
     (l.k ≤ l.jobs) × (page l.text l.at ≡ added (each l.k (job_in (work l.file) l.finishes)) (page l.initial.text l.next))
 
 abbrev pub decreases-loop-k : goal.decreases-loop-k

@@ -9,7 +9,7 @@ use Rattle.trace.specs.Written.{segment_in}
 use Rattle.report.proofs.segment_lines.Given as goal
 
 abbrev pub invariant-loop-k : goal.invariant-loop-k
-invariant-loop-k l = 
+invariant-loop-k l =
     (l.k ≤ l.shown) × (page l.text l.at ≡ added (each l.k (λ j. segment_line (segment_in l.list j))) (page l.initial.text l.next))
 
 abbrev pub decreases-loop-k : goal.decreases-loop-k

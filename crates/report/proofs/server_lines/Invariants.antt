@@ -10,7 +10,7 @@ use Rattle.page.proofs.PageLaws.{added_kept, each_none, each_next, each_all}
 use Rattle.report.proofs.server_lines.Given as goal
 
 abbrev pub invariant-loop-i : goal.invariant-loop-i
-invariant-loop-i l = 
+invariant-loop-i l =
     (l.i ≤ l.servers) × (page l.text l.at ≡ added (each l.i (λ j. server_line j (get_or l.records j blank))) (page l.initial.text l.next))
 
 abbrev pub decreases-loop-i : goal.decreases-loop-i

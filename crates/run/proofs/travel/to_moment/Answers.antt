@@ -61,36 +61,36 @@ arrival_of-a-requires c =
 pub offset_bounds-d-i : goal.offset_bounds-d-i
 offset_bounds-d-i c =
     let taken = its_arrival (its_fit c.requires) c.requires.in_time c.loop-next.invariant c.loop-t-test.true c.loop-next-test.true
-        c.arrival_of-a.result
-        c.arrival_of-a.ensures in
+    c.arrival_of-a.result
+    c.arrival_of-a.ensures in
     omega (arith, taken.place)
 
 pub bounds-d-i : goal.bounds-d-i
 bounds-d-i c =
     let taken = its_arrival (its_fit c.requires) c.requires.in_time c.loop-next.invariant c.loop-t-test.true c.loop-next-test.true
-        c.arrival_of-a.result
-        c.arrival_of-a.ensures in
+    c.arrival_of-a.result
+    c.arrival_of-a.ensures in
     taken.place
 
 pub take-taken-requires : goal.take-taken-requires
 take-taken-requires c =
     let taken = its_arrival (its_fit c.requires) c.requires.in_time c.loop-next.invariant c.loop-t-test.true c.loop-next-test.true
-        c.arrival_of-a.result
-        c.arrival_of-a.ensures in
+    c.arrival_of-a.result
+    c.arrival_of-a.ensures in
     taken.may c.loop-next.invariant.keyed
 
 pub offset_bounds-d-i-in-loop-next : goal.offset_bounds-d-i-in-loop-next
 offset_bounds-d-i-in-loop-next c =
     let taken = its_arrival (its_fit c.requires) c.requires.in_time c.loop-next.invariant c.loop-t-test.true c.loop-next-test.true
-        c.arrival_of-a.result
-        c.arrival_of-a.ensures in
+    c.arrival_of-a.result
+    c.arrival_of-a.ensures in
     omega (arith, taken.place)
 
 pub bounds-d-i-in-loop-next : goal.bounds-d-i-in-loop-next
 bounds-d-i-in-loop-next c =
     let taken = its_arrival (its_fit c.requires) c.requires.in_time c.loop-next.invariant c.loop-t-test.true c.loop-next-test.true
-        c.arrival_of-a.result
-        c.arrival_of-a.ensures in
+    c.arrival_of-a.result
+    c.arrival_of-a.ensures in
     taken.place
 
 pub overflow_add-j : goal.overflow_add-j
@@ -106,8 +106,8 @@ loop-next-smaller c = omega (arith, due_here c.loop-next.invariant c.loop-t-test
 pub loop-next-preserved : goal.loop-next-preserved
 loop-next-preserved c =
     let taken = its_arrival (its_fit c.requires) c.requires.in_time c.loop-next.invariant c.loop-t-test.true c.loop-next-test.true
-        c.arrival_of-a.result
-        c.arrival_of-a.ensures in
+    c.arrival_of-a.result
+    c.arrival_of-a.ensures in
     rw add-one
     (taking_more c.loop-next.invariant c.loop-t-test.true c.loop-next-test.true (taken.stands _ c.take-taken.ensures.value)
     (taken.keyed _ c.loop-next.invariant.keyed c.take-taken.ensures.set)
@@ -180,7 +180,7 @@ go_on-requires c =
     let ahead = its_stop fit c.requires.in_time c.loop-next.invariant c.loop-next-test.false in
     let pick = root_pick fit v c.loop-next.root c.loop-next.invariant.root_is c.if-root.false in
     let over = spell_over fit v pick c.left_of-rest.ensures ahead c.until.ensures c.go-g.ensures c.requires.long c.loop-next.invariant
-        c.later-t.ensures in
+    c.later-t.ensures in
     over.may_go_on
 
 pub loop-t-smaller : goal.loop-t-smaller
@@ -190,7 +190,7 @@ loop-t-smaller c =
     let ahead = its_stop fit c.requires.in_time c.loop-next.invariant c.loop-next-test.false in
     let pick = root_pick fit v c.loop-next.root c.loop-next.invariant.root_is c.if-root.false in
     let over = spell_over fit v pick c.left_of-rest.ensures ahead c.until.ensures c.go-g.ensures c.requires.long c.loop-next.invariant
-        c.later-t.ensures in
+    c.later-t.ensures in
     omega (arith, over.later, c.loop-t-test.true)
 
 pub loop-t-preserved : goal.loop-t-preserved
@@ -200,7 +200,7 @@ loop-t-preserved c =
     let ahead = its_stop fit c.requires.in_time c.loop-next.invariant c.loop-next-test.false in
     let pick = root_pick fit v c.loop-next.root c.loop-next.invariant.root_is c.if-root.false in
     let over = spell_over fit v pick c.left_of-rest.ensures ahead c.until.ensures c.go-g.ensures c.requires.long c.loop-next.invariant
-        c.later-t.ensures in
+    c.later-t.ensures in
     over.keeps c.requires.follows c.go_on.ensures
 
 pub shape_of-list : goal.shape_of-list

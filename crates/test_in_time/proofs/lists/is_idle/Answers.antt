@@ -55,11 +55,10 @@ pub loop-k-smaller : goal.loop-k-smaller
 loop-k-smaller c = omega (arith, c.loop-k-test.true)
 
 pub loop-k-preserved : goal.loop-k-preserved
-loop-k-preserved c =
-    (
-      omega (arith, c.loop-k-test.true),
-      every_next c.loop-k.k (done start) c.loop-k.invariant.1 (sym (one c.?before) ∙ not-false _ c.if-not-is_done.false),
-    )
+loop-k-preserved c = (
+  omega (arith, c.loop-k-test.true),
+  every_next c.loop-k.k (done start) c.loop-k.invariant.1 (sym (one c.?before) ∙ not-false _ c.if-not-is_done.false),
+)
 
 pub returns : goal.returns
 returns c =
