@@ -7,7 +7,7 @@ use Rattle.report.proofs.RanLaws.{ran_told, report_accepted, report_refused, Lef
 use Rattle.run.specs.declared.Ran.{Ran}
 use Rattle.run.specs.Outcome.{outcome, run_says}
 use Rattle.sizes.specs.Sizes.{most_arrivals, trace_numbers}
-use Rattle.page.proofs.PageLaws.{added_as, added_kept}
+use Rattle.page.proofs.PageLaws.{added_as}
 use Rattle.report.proofs.day_report.Goals as goal
 
 -- what the run has left
@@ -16,21 +16,9 @@ left : (file list ends after ended : List ℕ) (r : Ran) → trace_numbers ≡ l
 left file list ends after ended r list_long ends_long e =
     record { list = list; ends = ends; list_long = sym list_long; ends_long = sym ends_long; ran_is = e }
 
-pub slice_bounds-run-end : goal.slice_bounds-run-end
-slice_bounds-run-end c = c.trace_list-list.ensures
-
-pub slice_bounds-run-end-2 : goal.slice_bounds-run-end-2
-slice_bounds-run-end-2 c = c.finish_list-finishes.ensures
-
-pub enum_told-1 : goal.enum_told-1
-enum_told-1 c = c.in-Accepted.keys1
-
 pub accepted-requires : goal.accepted-requires
 accepted-requires c =
     ran_told (left _ _ _ _ _ c.run-ran.result c.trace_list-list.ensures c.finish_list-finishes.ensures c.run-ran.ensures) c.in-Accepted.is
-
-pub enum_known-verdict : goal.enum_known-verdict
-enum_known-verdict c = c.in-Accepted.keys2
 
 pub returns-in-Accepted : goal.returns-in-Accepted
 returns-in-Accepted c =
@@ -38,14 +26,8 @@ returns-in-Accepted c =
     (sym (report_accepted (left _ _ _ _ _ c.run-ran.result c.trace_list-list.ensures c.finish_list-finishes.ensures c.run-ran.ensures) c.in-Accepted.is))
     c.accepted.ensures
 
-pub shape_of-text-in-Accepted : goal.shape_of-text-in-Accepted
-shape_of-text-in-Accepted c = added_kept _ _ (returns c)
-
 pub returns-in-Refused : goal.returns-in-Refused
 returns-in-Refused c =
     added_as _
     (sym (report_refused (left _ _ _ _ _ c.run-ran.result c.trace_list-list.ensures c.finish_list-finishes.ensures c.run-ran.ensures) _ c.in-Refused.is))
     c.refused.ensures
-
-pub shape_of-text-in-Refused : goal.shape_of-text-in-Refused
-shape_of-text-in-Refused c = added_kept _ _ (returns_2 c)

@@ -2,16 +2,17 @@
 use Prim.Native.Nat.{◌-◌, ◌≤◌}
 use lib.ListN.{get_or}
 use mathlib.Core.Path.{◌≡◌}
-use native.Mathlib.Omega.{arith}
 use Rattle.report.specs.DayReport.{server_line}
 use Rattle.summary.specs.Summary.{blank}
 use Rattle.page.specs.Page.{page, added, each}
-use Rattle.page.proofs.PageLaws.{added_kept, each_none, each_next, each_all}
 use Rattle.report.proofs.server_lines.Given as goal
 
 abbrev pub invariant-loop-i : goal.invariant-loop-i
 invariant-loop-i l =
-    (l.i ≤ l.servers) × (page l.text l.at ≡ added (each l.i (λ j. server_line j (get_or l.records j blank))) (page l.initial.text l.next))
+    record {
+      within : l.i ≤ l.servers;
+      so_far : page l.text l.at ≡ added (each l.i (λ j. server_line j (get_or l.records j blank))) (page l.initial.text l.next);
+    }
 
 abbrev pub decreases-loop-i : goal.decreases-loop-i
 decreases-loop-i l = l.servers - l.i

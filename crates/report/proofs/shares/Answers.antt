@@ -1,36 +1,36 @@
 -- `report::shares` meets its promise: an accepted file's table is admitted, so that what is left on its sheet and the shares are the frame.
-use Prim.Native.Nat.{◌+◌}
+use Prim.Native.Nat.{ℕ, ◌+◌}
+use mathlib.Core.List.{List}
 use mathlib.Core.Path.{◌≡◌, ◌∙◌, ap}
 use native.Mathlib.Omega.{arith}
 use Rattle.booking.proofs.SheetLaws.{sheet_left, admitted_left}
 use Rattle.booking.specs.Admission.{shares}
-use Rattle.booking.specs.Sheet.{sheet_of}
-use Rattle.books.proofs.Accepted.{frame_read, work_read}
+use Rattle.booking.specs.Sheet.{left_of, sheet_of, table_on}
+use Rattle.booking.specs.declared.Sheet.{Sheet}
+use Rattle.books.proofs.Accepted.{Accepted, frame_read, work_read}
 use Rattle.clock.specs.declared.Length.{Length}
-use Rattle.workfile.specs.Work.{Work, work}
+use Rattle.workfile.specs.Layout.{header}
+use Rattle.workfile.specs.Work.{Work, work, work_under}
+use Rattle.workfile.specs.declared.Header.{Header}
 use Rattle.report.proofs.shares.Goals as goal
-use Rattle.report.proofs.shares.Goals.{After-left_on-left}
 
--- the work of the file
-abbrev work_of : After-left_on-left → Work
-work_of c = work c.args.file.now
-
-taken_off : (c : After-left_on-left)
-    → c.left_on-left.result.ticks + shares (work_of c).frame (work_of c).table ≡ c.header_of-h.result.frame.ticks
-taken_off c =
-    let fit = c.requires.fit in
-    let read = c.header_of-h.ensures in
-    let sheet = c.sheet_of.ensures ∙ ap (λ (w : Work). sheet_of w.frame w.table) (work_read _ read) in
-    let left = c.left_on-left.ensures ∙ sheet_left (work_of c).frame (work_of c).table fit.servers sheet in
+-- what is left on the sheet of an accepted file's table, as it was read, and the shares are the frame
+taken_off : (file : List ℕ) {h : Header} {sheet : Sheet} {left : Length} → Accepted file → h ≡ header file
+    → sheet ≡ sheet_of h.frame (work_under h file).table → left ≡ left_of sheet.frame (table_on sheet)
+    → left.ticks + shares (work file).frame (work file).table ≡ h.frame.ticks
+taken_off file {h} {sheet} {left} fine read made is =
+    let sheet_is = made ∙ ap (λ (w : Work). sheet_of w.frame w.table) (work_read file read) in
+    let left_is = is ∙ sheet_left (work file).frame (work file).table fine.fit.servers sheet_is in
     omega (
       arith,
-      ap (λ (l : Length). l.ticks) left,
-      ap (λ (l : Length). l.ticks) (frame_read _ read),
-      admitted_left (work_of c).frame (work_of c).table fit.admitted,
+      ap (λ (l : Length). l.ticks) left_is,
+      ap (λ (l : Length). l.ticks) (frame_read file read),
+      admitted_left (work file).frame (work file).table fine.fit.admitted,
     )
 
 pub overflow_sub-result : goal.overflow_sub-result
-overflow_sub-result c = omega (arith, taken_off c.?before)
+overflow_sub-result c =
+    omega (arith, taken_off c.args.file.now c.requires c.header_of-h.ensures c.sheet_of.ensures c.left_on-left.ensures)
 
 pub returns : goal.returns
-returns c = omega (arith, taken_off c.?before)
+returns c = omega (arith, taken_off c.args.file.now c.requires c.header_of-h.ensures c.sheet_of.ensures c.left_on-left.ensures)

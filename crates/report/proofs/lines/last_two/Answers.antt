@@ -3,7 +3,7 @@ use Prim.Native.Nat.{ℕ}
 use mathlib.Core.List.{List, [], ◌++◌, append_assoc}
 use mathlib.Core.Path.{◌≡◌}
 use Rattle.text.specs.Line.{decimal, goes_on}
-use Rattle.page.proofs.PageLaws.{added_as, added_two_then, added_kept}
+use Rattle.page.proofs.PageLaws.{added_as, added_two_then}
 use Rattle.report.proofs.lines.last_two.Goals as goal
 
 in_turn : (words n more m end : List ℕ) → (words ++ n) ++ ((more ++ m) ++ end) ≡ words ++ (n ++ (more ++ (m ++ end)))
@@ -13,6 +13,3 @@ pub returns : goal.returns
 returns c =
     let args = c.args in
     added_as _ (in_turn args.words.now (decimal args.n) args.more.now (decimal args.m) (goes_on [])) (added_two_then _ _ _ _ c.two-at.ensures c.add_byte.ensures)
-
-pub shape_of-text : goal.shape_of-text
-shape_of-text c = added_kept _ _ (returns c)

@@ -1,6 +1,6 @@
 -- `report::lines::responses` meets its promise, case by case.
 use mathlib.Core.List.{◌++◌}
-use mathlib.Core.Path.{refl, sym, ◌∙◌, ap}
+use mathlib.Core.Path.{sym, ◌∙◌, ap}
 use Rattle.report.specs.DayReport.{total_field, longest_field}
 use Rattle.summary.specs.declared.Response.{Response}
 use Rattle.text.specs.Line.{bytes, bytes_of}

@@ -1,5 +1,4 @@
 -- `report::lines::segment` meets its promise: its parts one behind the other are the line.
-use mathlib.Core.Path.{refl}
 use Rattle.page.proofs.PageLaws.{added_then, added_two_then}
 use Rattle.report.proofs.lines.segment.Goals as goal
 

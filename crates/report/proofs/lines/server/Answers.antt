@@ -1,7 +1,6 @@
 -- `report::lines::server` meets its promise: its parts one behind the other are the line.
-use mathlib.Core.Path.{refl}
 use Rattle.report.specs.DayReport.{server_line}
-use Rattle.page.proofs.PageLaws.{added_then, added_two_then, added_kept}
+use Rattle.page.proofs.PageLaws.{added_then, added_two_then}
 use Rattle.report.proofs.lines.server.Goals as goal
 
 pub returns : goal.returns
@@ -11,6 +10,3 @@ returns c =
     (added_two_then _ _ _ _ c.two-at.ensures
     (added_two_then _ _ _ _ c.responses-at.ensures
     c.last_two.ensures))
-
-pub shape_of-text : goal.shape_of-text
-shape_of-text c = added_kept _ _ (returns c)
