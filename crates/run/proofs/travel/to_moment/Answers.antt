@@ -1,43 +1,32 @@
 -- `run::travel::to_moment` meets its promise: what `Travels` says holds between any two events, and no event goes on behind its end.
-use Prim.Native.Nat.{ℕ, ◌≤◌, ◌<◌}
+use Prim.Native.Nat.{ℕ, ◌%◌, ◌<◌}
 use lib.ListN.{length}
 use mathlib.Core.List.{List}
-use mathlib.Core.Path.{◌≡◌, refl, sym, ◌∙◌, ap}
+use mathlib.Core.Path.{refl, sym, ◌∙◌, ap}
 use native.Mathlib.Nat.{le_antisymm}
 use native.Mathlib.Numerals.{add-one}
 use native.Mathlib.Omega.{arith}
-use Rattle.arrival.specs.declared.Arrival.{Arrival}
 use Rattle.books.proofs.Accepted.{fit_beside}
-use Rattle.books.proofs.Book.{Run, Here, Book}
-use Rattle.books.proofs.Spell.SpellEvent.{place, picked_serves, may_go, spell_over}
+use Rattle.books.proofs.Book.{Run, lent_in, Here, here, Book, TurnBook, turn_book, job_book, segment_book}
+use Rattle.books.proofs.Spell.SpellEvent.{place, picked_serves, may_go, SpellOver, spell_over}
 use Rattle.books.proofs.Stretches.Turns.{bounded_end}
-use Rattle.books.proofs.Travel.ArrivalTaken.{Takes, takes, Taking, due_here, due_now, taking_more}
+use Rattle.books.proofs.Travel.ArrivalTaken.{Takes, takes, due_here, due_now, taking_more}
 use Rattle.books.proofs.Travel.BetweenEvents.{Ahead, stop_ahead, bounded, root_pick, list_long, finishes_long}
 use Rattle.books.proofs.Travel.IdleTime.{idled_on}
 use Rattle.books.proofs.Travel.Travels.{MayTravel, taking_none, travels_taking}
-use Rattle.books.proofs.Tree.Winners.{Tree}
+use Rattle.books.proofs.Tree.Winners.{tree_of}
 use Rattle.clock.specs.Clock.{moment}
 use Rattle.clock.specs.declared.Moment.{Moment}
+use Rattle.dispatcher.specs.Pick.{Earliest}
 use Rattle.judgement.proofs.FitLaws.{Fit}
-use Rattle.workfile.specs.Work.{Work, work}
+use Rattle.workfile.specs.Work.{work}
 use Rattle.run.proofs.travel.to_moment.Goals as goal
+use Rattle.run.proofs.travel.to_moment.Goals.{In-loop-next, After-arrival_of-a, Else-root, After-later-t}
 
 -- the work fits beside the finish list that was lent
 its_fit : {file behind : List ℕ} {until : ℕ} {r : Run} {h : Here} {b : Book} → MayTravel file behind until r h b
     → Fit (work file) (length r.finishes)
 its_fit pre = fit_beside _ pre.accepted.fit pre.long
-
--- While the arrivals of a moment are taken.
-module _ {w : Work} {places until next root : ℕ} {from h : Here} {tree : Tree} (fit : Fit w places) (in_time : until ≤ w.horizon.tick)
-    (g : Taking w until from h tree next root) where
-  -- an arrival that is due, as it was read
-  its_arrival : h.t < until → next ≤ h.t → (a : Arrival) → a ≡ w.arrival h.taken → Takes w h.t h.taken h.dispatcher a
-  its_arrival ahead due a read =
-      takes fit g.stands (omega (arith, in_time, fit.horizon)) (due_here g ahead due) (due_now g ahead due) a read
-
-  -- once they are, the next stop is ahead
-  its_stop : h.t < next → Ahead w h next
-  its_stop some = stop_ahead fit g.next_is some in_time
 
 pub next_stop-next-requires : goal.next_stop-next-requires
 next_stop-next-requires c = c.requires.accepted
@@ -54,71 +43,61 @@ loop-t-init c =
 pub loop-next-init : goal.loop-next-init
 loop-next-init c = taking_none c.loop-t.invariant
 
+-- An arrival that is due, and as it was read.
+due : (r : In-loop-next) → r.loop-next.j < (work r.args.file.now).arrivals
+due r = due_here r.loop-next.invariant r.loop-t-test.true r.loop-next-test.true
+
 pub arrival_of-a-requires : goal.arrival_of-a-requires
 arrival_of-a-requires c =
-    record { accepted = c.requires.accepted; k_bound = due_here c.loop-next.invariant c.loop-t-test.true c.loop-next-test.true }
+    record { accepted = c.requires.accepted; k_bound = due (goal.at.arrival_of-a-requires c).In-loop-next }
+
+taken : (r : After-arrival_of-a) → Takes (work r.args.file.now) r.loop-t.t.tick r.loop-next.j r.loop-next.d r.arrival_of-a.result
+taken r =
+    let fit = its_fit r.requires in
+    let g = r.loop-next.invariant in
+    takes fit g.stands (omega (arith, r.loop-t-test.true, r.requires.in_time, fit.horizon))
+    (due_here g r.loop-t-test.true r.loop-next-test.true)
+    (due_now g r.loop-t-test.true r.loop-next-test.true)
+    r.arrival_of-a.result
+    r.arrival_of-a.ensures
 
 pub offset_bounds-d-i : goal.offset_bounds-d-i
-offset_bounds-d-i c =
-    let taken = its_arrival (its_fit c.requires) c.requires.in_time c.loop-next.invariant c.loop-t-test.true c.loop-next-test.true
-    c.arrival_of-a.result
-    c.arrival_of-a.ensures in
-    omega (arith, taken.place)
+offset_bounds-d-i c = omega (arith, (taken (goal.at.offset_bounds-d-i c).After-arrival_of-a).place)
 
 pub bounds-d-i : goal.bounds-d-i
-bounds-d-i c =
-    let taken = its_arrival (its_fit c.requires) c.requires.in_time c.loop-next.invariant c.loop-t-test.true c.loop-next-test.true
-    c.arrival_of-a.result
-    c.arrival_of-a.ensures in
-    taken.place
+bounds-d-i c = (taken (goal.at.bounds-d-i c).After-arrival_of-a).place
 
 pub take-taken-requires : goal.take-taken-requires
-take-taken-requires c =
-    let taken = its_arrival (its_fit c.requires) c.requires.in_time c.loop-next.invariant c.loop-t-test.true c.loop-next-test.true
-    c.arrival_of-a.result
-    c.arrival_of-a.ensures in
-    taken.may c.loop-next.invariant.keyed
+take-taken-requires c = (taken (goal.at.take-taken-requires c).After-arrival_of-a).may c.loop-next.invariant.keyed
 
 pub offset_bounds-d-i-in-loop-next : goal.offset_bounds-d-i-in-loop-next
-offset_bounds-d-i-in-loop-next c =
-    let taken = its_arrival (its_fit c.requires) c.requires.in_time c.loop-next.invariant c.loop-t-test.true c.loop-next-test.true
-    c.arrival_of-a.result
-    c.arrival_of-a.ensures in
-    omega (arith, taken.place)
+offset_bounds-d-i-in-loop-next c = omega (arith, (taken (goal.at.offset_bounds-d-i-in-loop-next c).After-arrival_of-a).place)
 
 pub bounds-d-i-in-loop-next : goal.bounds-d-i-in-loop-next
-bounds-d-i-in-loop-next c =
-    let taken = its_arrival (its_fit c.requires) c.requires.in_time c.loop-next.invariant c.loop-t-test.true c.loop-next-test.true
-    c.arrival_of-a.result
-    c.arrival_of-a.ensures in
-    taken.place
+bounds-d-i-in-loop-next c = (taken (goal.at.bounds-d-i-in-loop-next c).After-arrival_of-a).place
 
 pub overflow_add-j : goal.overflow_add-j
-overflow_add-j c =
-    omega (arith, due_here c.loop-next.invariant c.loop-t-test.true c.loop-next-test.true, (its_fit c.requires).arrivals)
+overflow_add-j c = omega (arith, due (goal.at.overflow_add-j c).In-loop-next, (its_fit c.requires).arrivals)
 
 pub next_stop-next-requires-in-loop-next : goal.next_stop-next-requires-in-loop-next
 next_stop-next-requires-in-loop-next c = c.requires.accepted
 
 pub loop-next-smaller : goal.loop-next-smaller
-loop-next-smaller c = omega (arith, due_here c.loop-next.invariant c.loop-t-test.true c.loop-next-test.true)
+loop-next-smaller c = omega (arith, due (goal.at.loop-next-smaller c).In-loop-next)
 
 pub loop-next-preserved : goal.loop-next-preserved
 loop-next-preserved c =
-    let taken = its_arrival (its_fit c.requires) c.requires.in_time c.loop-next.invariant c.loop-t-test.true c.loop-next-test.true
-    c.arrival_of-a.result
-    c.arrival_of-a.ensures in
+    let r = (goal.at.loop-next-preserved c).After-arrival_of-a in
+    let g = c.loop-next.invariant in
     rw add-one
-    (taking_more c.loop-next.invariant c.loop-t-test.true c.loop-next-test.true (taken.stands _ c.take-taken.ensures.value)
-    (taken.keyed _ c.loop-next.invariant.keyed c.take-taken.ensures.set)
+    (taking_more g c.loop-t-test.true c.loop-next-test.true ((taken r).stands _ c.take-taken.ensures.value)
+    ((taken r).keyed _ g.keyed c.take-taken.ensures.set)
     (rw add-one at (ap (λ (m : Moment). m.tick) c.next_stop-next-in-loop-next.ensures))
     refl)
 
 pub idle-c-requires : goal.idle-c-requires
 idle-c-requires c =
-    let fit = its_fit c.requires in
-    let v = travels_taking c.loop-t.invariant.travels c.loop-next.invariant in
-    bounded_end (bounded fit v) (omega arith)
+    bounded_end (bounded (its_fit c.requires) (travels_taking c.loop-t.invariant.travels c.loop-next.invariant)) (omega arith)
 
 pub loop-t-smaller-then-root : goal.loop-t-smaller-then-root
 loop-t-smaller-then-root c = omega (arith, c.loop-next-test.false, c.loop-t-test.true)
@@ -126,82 +105,91 @@ loop-t-smaller-then-root c = omega (arith, c.loop-next-test.false, c.loop-t-test
 pub loop-t-preserved-then-root : goal.loop-t-preserved-then-root
 loop-t-preserved-then-root c =
     let fit = its_fit c.requires in
-    let v = travels_taking c.loop-t.invariant.travels c.loop-next.invariant in
-    let ahead = its_stop fit c.requires.in_time c.loop-next.invariant c.loop-next-test.false in
-    idled_on fit v (sym c.loop-next.invariant.root_is ∙ c.if-root.true) ahead c.idle-c.ensures c.loop-next.invariant
+    let g = c.loop-next.invariant in
+    idled_on fit (travels_taking c.loop-t.invariant.travels g) (sym g.root_is ∙ c.if-root.true)
+    (stop_ahead fit g.next_is c.loop-next-test.false c.requires.in_time)
+    c.idle-c.ensures
+    g
+
+-- The server that is picked.
+pick : (e : Else-root) → let d = e.loop-next.d in Earliest d d.count (e.loop-next.root % 64)
+pick e =
+    root_pick (its_fit e.requires) (travels_taking e.loop-t.invariant.travels e.loop-next.invariant) e.loop-next.root
+    e.loop-next.invariant.root_is
+    e.if-root.false
+
+its_place : (e : Else-root) → e.loop-next.root % 64 < 64
+its_place e = place (its_fit e.requires) (travels_taking e.loop-t.invariant.travels e.loop-next.invariant) (pick e)
+
+-- up to the next stop no arrival comes
+ahead : (e : Else-root) → Ahead (work e.args.file.now) (here e.loop-t.t.tick e.loop-next.j e.loop-next.d) e.loop-next.next.tick
+ahead e = stop_ahead (its_fit e.requires) e.loop-next.invariant.next_is e.loop-next-test.false e.requires.in_time
 
 pub left_of-rest-requires : goal.left_of-rest-requires
 left_of-rest-requires c =
-    let fit = its_fit c.requires in
-    let v = travels_taking c.loop-t.invariant.travels c.loop-next.invariant in
-    let pick = root_pick fit v c.loop-next.root c.loop-next.invariant.root_is c.if-root.false in
-    record { accepted = c.requires.accepted; serves = picked_serves fit v pick }
+    record {
+      accepted = c.requires.accepted;
+      serves =
+          picked_serves (its_fit c.requires) (travels_taking c.loop-t.invariant.travels c.loop-next.invariant)
+          (pick (goal.at.left_of-rest-requires c).Else-root);
+    }
 
 pub offset_bounds-d-i-else-root : goal.offset_bounds-d-i-else-root
-offset_bounds-d-i-else-root c =
-    let fit = its_fit c.requires in
-    let v = travels_taking c.loop-t.invariant.travels c.loop-next.invariant in
-    let pick = root_pick fit v c.loop-next.root c.loop-next.invariant.root_is c.if-root.false in
-    omega (arith, place fit v pick)
+offset_bounds-d-i-else-root c = omega (arith, its_place (goal.at.offset_bounds-d-i-else-root c).Else-root)
 
 pub bounds-d-i-else-root : goal.bounds-d-i-else-root
-bounds-d-i-else-root c =
-    let fit = its_fit c.requires in
-    let v = travels_taking c.loop-t.invariant.travels c.loop-next.invariant in
-    let pick = root_pick fit v c.loop-next.root c.loop-next.invariant.root_is c.if-root.false in
-    place fit v pick
+bounds-d-i-else-root c = its_place (goal.at.bounds-d-i-else-root c).Else-root
 
 pub go-g-requires : goal.go-g-requires
 go-g-requires c =
-    let fit = its_fit c.requires in
-    let v = travels_taking c.loop-t.invariant.travels c.loop-next.invariant in
-    let ahead = its_stop fit c.requires.in_time c.loop-next.invariant c.loop-next-test.false in
-    let pick = root_pick fit v c.loop-next.root c.loop-next.invariant.root_is c.if-root.false in
-    may_go fit v pick c.left_of-rest.ensures ahead c.until.ensures
+    let e = (goal.at.go-g-requires c).Else-root in
+    may_go (its_fit c.requires) (travels_taking c.loop-t.invariant.travels c.loop-next.invariant) (pick e) c.left_of-rest.ensures
+    (ahead e)
+    c.until.ensures
 
 pub offset_bounds-d-i-else-root-2 : goal.offset_bounds-d-i-else-root-2
-offset_bounds-d-i-else-root-2 c =
-    let fit = its_fit c.requires in
-    let v = travels_taking c.loop-t.invariant.travels c.loop-next.invariant in
-    let pick = root_pick fit v c.loop-next.root c.loop-next.invariant.root_is c.if-root.false in
-    omega (arith, place fit v pick)
+offset_bounds-d-i-else-root-2 c = omega (arith, its_place (goal.at.offset_bounds-d-i-else-root-2 c).Else-root)
 
 pub bounds-d-i-else-root-2 : goal.bounds-d-i-else-root-2
-bounds-d-i-else-root-2 c =
-    let fit = its_fit c.requires in
-    let v = travels_taking c.loop-t.invariant.travels c.loop-next.invariant in
-    let pick = root_pick fit v c.loop-next.root c.loop-next.invariant.root_is c.if-root.false in
-    place fit v pick
+bounds-d-i-else-root-2 c = its_place (goal.at.bounds-d-i-else-root-2 c).Else-root
+
+-- Once the spell has gone.
+abbrev turns_after : After-later-t → TurnBook
+turns_after l =
+    turn_book (tree_of l.args.leaves l.go-g.new.keys) l.go-g.new.postponed l.go-g.new.interrupted
+    (segment_book l.go-g.new.list l.go-g.result.current)
+
+over : (l : After-later-t)
+    → SpellOver (lent_in (work l.args.file.now) l.args.from.moment.tick l.args.from.current l.args.list.now l.args.finishes.now)
+    (here l.loop-t.t.tick l.loop-next.j l.loop-next.d)
+    (l.loop-next.root % 64)
+    l.args.until.tick
+    l.loop-next.next.tick
+    l.later-t.result
+    (job_book l.loop-t.job l.left_of-rest.new.left l.loop-t.finishes)
+    (turns_after l)
+    l.go-g.result
+over l =
+    let fit = its_fit l.requires in
+    let g = l.loop-next.invariant in
+    let v = travels_taking l.loop-t.invariant.travels g in
+    spell_over fit v (root_pick fit v l.loop-next.root g.root_is l.if-root.false) l.left_of-rest.ensures
+    (stop_ahead fit g.next_is l.loop-next-test.false l.requires.in_time)
+    l.until.ensures
+    {turns = turns_after l}
+    l.go-g.ensures
+    l.requires.long
+    g
+    l.later-t.ensures
 
 pub go_on-requires : goal.go_on-requires
-go_on-requires c =
-    let fit = its_fit c.requires in
-    let v = travels_taking c.loop-t.invariant.travels c.loop-next.invariant in
-    let ahead = its_stop fit c.requires.in_time c.loop-next.invariant c.loop-next-test.false in
-    let pick = root_pick fit v c.loop-next.root c.loop-next.invariant.root_is c.if-root.false in
-    let over = spell_over fit v pick c.left_of-rest.ensures ahead c.until.ensures c.go-g.ensures c.requires.long c.loop-next.invariant
-    c.later-t.ensures in
-    over.may_go_on
+go_on-requires c = (over (goal.at.go_on-requires c).After-later-t).may_go_on
 
 pub loop-t-smaller : goal.loop-t-smaller
-loop-t-smaller c =
-    let fit = its_fit c.requires in
-    let v = travels_taking c.loop-t.invariant.travels c.loop-next.invariant in
-    let ahead = its_stop fit c.requires.in_time c.loop-next.invariant c.loop-next-test.false in
-    let pick = root_pick fit v c.loop-next.root c.loop-next.invariant.root_is c.if-root.false in
-    let over = spell_over fit v pick c.left_of-rest.ensures ahead c.until.ensures c.go-g.ensures c.requires.long c.loop-next.invariant
-    c.later-t.ensures in
-    omega (arith, over.later, c.loop-t-test.true)
+loop-t-smaller c = omega (arith, (over (goal.at.loop-t-smaller c).After-later-t).later, c.loop-t-test.true)
 
 pub loop-t-preserved : goal.loop-t-preserved
-loop-t-preserved c =
-    let fit = its_fit c.requires in
-    let v = travels_taking c.loop-t.invariant.travels c.loop-next.invariant in
-    let ahead = its_stop fit c.requires.in_time c.loop-next.invariant c.loop-next-test.false in
-    let pick = root_pick fit v c.loop-next.root c.loop-next.invariant.root_is c.if-root.false in
-    let over = spell_over fit v pick c.left_of-rest.ensures ahead c.until.ensures c.go-g.ensures c.requires.long c.loop-next.invariant
-    c.later-t.ensures in
-    over.keeps c.requires.follows c.go_on.ensures
+loop-t-preserved c = (over (goal.at.loop-t-preserved c).After-later-t).keeps c.requires.follows c.go_on.ensures
 
 pub shape_of-list : goal.shape_of-list
 shape_of-list c = list_long (its_fit c.requires) c.loop-t.invariant.travels
