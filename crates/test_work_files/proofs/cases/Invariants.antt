@@ -1,7 +1,6 @@
 -- `test_work_files::cases` is safe and ends: each case ends behind its start and within the list.
 use Prim.Native.Nat.{◌-◌}
 use lib.ListN.{length}
-use native.Mathlib.Omega.{arith}
 use Rattle.test_work_files.proofs.cases.Given as goal
 
 abbrev pub invariant-loop-at : goal.invariant-loop-at

@@ -1,8 +1,6 @@
 -- `bench_live_ticks::by_value::ticks` meets its promise: at every turn the tally and the dispatcher are what the ticks so far have come to.
-use Prim.Native.Nat.{◌-◌, ◌≤◌}
 use mathlib.Core.Path.{◌≡◌, ap, ◌∙◌}
 use native.Mathlib.Omega.{arith}
-use Rattle.dispatcher.specs.Within.{Within}
 use Rattle.bench_live_ticks.specs.declared.tally.Tally.{Tally}
 use Rattle.bench_live_ticks.specs.Working.Ticks.{tallied}
 use Rattle.bench_live_ticks.proofs.TicksLaws.{having, tallied_none, tallied_next, tallied_fits}
@@ -21,8 +19,8 @@ loop-k-preserved c =
       omega arith,
       (
         ap (λ (t : Tally). having t c.tick-t.result.dispatcher) c.with-tally.ensures ∙
-            tallied_next _ loop.k loop.tally loop.d _ _ loop.invariant.1.0 made.0,
-        made.1,
+            tallied_next _ loop.k loop.tally loop.d _ _ loop.invariant.1.0 made.result_value,
+        made.within,
       ),
     )
 
@@ -30,4 +28,4 @@ pub returns : goal.returns
 returns c =
     let loop = c.loop-k in
     let all : loop.k ≡ c.args.count = omega arith in
-    (loop.invariant.1.0 ∙ ap (tallied _) all, loop.invariant.1.1)
+    record { value = loop.invariant.1.0 ∙ ap (tallied _) all; within = loop.invariant.1.1 }

@@ -1,11 +1,9 @@
 -- `bench_live_ticks::by_value::ticks` meets its promise: at every turn the tally and the dispatcher are what the ticks so far have come to.
 use Prim.Native.Nat.{◌-◌, ◌≤◌}
-use mathlib.Core.Path.{◌≡◌, ap, ◌∙◌}
-use native.Mathlib.Omega.{arith}
+use mathlib.Core.Path.{◌≡◌}
 use Rattle.dispatcher.specs.Within.{Within}
-use Rattle.bench_live_ticks.specs.declared.tally.Tally.{Tally}
 use Rattle.bench_live_ticks.specs.Working.Ticks.{tallied}
-use Rattle.bench_live_ticks.proofs.TicksLaws.{having, tallied_none, tallied_next, tallied_fits}
+use Rattle.bench_live_ticks.proofs.TicksLaws.{having}
 use Rattle.bench_live_ticks.proofs.by_value.ticks.Given as goal
 
 abbrev pub invariant-loop-k : goal.invariant-loop-k

@@ -1,6 +1,5 @@
 -- `bench_live_ticks::say::servers` is safe: each number below the count is one of the 64 places.
 use Prim.Native.Nat.{◌-◌, ◌≤◌}
-use native.Mathlib.Omega.{arith}
 use Rattle.bench_live_ticks.proofs.say.servers.Given as goal
 
 abbrev pub invariant-loop-i : goal.invariant-loop-i

@@ -1,9 +1,7 @@
 -- `bench_live_ticks::work::lay` meets its promise: the pairs are no more than half the length, which no store changes.
 use Prim.Native.Nat.{◌-◌, ◌/◌, ◌≤◌}
-use lib.ListN.{length, length-set}
-use lib.Seq.{length-take-le}
-use mathlib.Core.Path.{◌≡◌, refl, sym}
-use native.Mathlib.Omega.{arith}
+use lib.ListN.{length}
+use mathlib.Core.Path.{◌≡◌}
 use Rattle.bench_live_ticks.proofs.work.lay.Given as goal
 
 abbrev pub invariant-loop-k : goal.invariant-loop-k

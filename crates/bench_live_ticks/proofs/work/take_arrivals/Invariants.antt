@@ -1,7 +1,5 @@
 -- `bench_live_ticks::work::take_arrivals` meets its promise: every arrival leaves the dispatcher within the ranges.
 use Prim.Native.Nat.{◌-◌, ◌≤◌}
-use mathlib.Core.Logic.{⊎_elim}
-use native.Mathlib.Omega.{arith}
 use Rattle.dispatcher.specs.Within.{Within}
 use Rattle.sizes.specs.Sizes.{most_arrivals}
 use Rattle.bench_live_ticks.proofs.work.take_arrivals.Given as goal

@@ -2,7 +2,6 @@
 use Prim.Native.Nat.{◌-◌}
 use lib.ListN.{length}
 use mathlib.Core.Path.{◌≡◌}
-use native.Mathlib.Omega.{arith}
 use Rattle.test_work_files.proofs.case.lay.Given as goal
 
 abbrev pub invariant-loop-k : goal.invariant-loop-k

@@ -1,7 +1,6 @@
 -- `test_work_files::say::finishes` is safe: each place is below the length.
 use Prim.Native.Nat.{◌-◌}
 use lib.ListN.{length}
-use native.Mathlib.Omega.{arith}
 use Rattle.test_work_files.proofs.say.finishes.Given as goal
 
 abbrev pub invariant-loop-k : goal.invariant-loop-k

@@ -1,6 +1,5 @@
 -- `test_work_files::say::servers` is safe: each number is one of the 64 places.
 use Prim.Native.Nat.{◌-◌}
-use native.Mathlib.Omega.{arith}
 use Rattle.test_work_files.proofs.say.servers.Given as goal
 
 abbrev pub invariant-loop-i : goal.invariant-loop-i

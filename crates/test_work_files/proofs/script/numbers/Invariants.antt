@@ -1,9 +1,7 @@
 -- `test_work_files::script::numbers` meets its promise: every number that has ended has a place of the list.
 use Prim.Native.Nat.{◌-◌, ◌≤◌}
 use lib.ListN.{length}
-use lib.Seq.{length-take-le}
-use mathlib.Core.Path.{◌≡◌, sym}
-use native.Mathlib.Omega.{arith}
+use mathlib.Core.Path.{◌≡◌}
 use Rattle.test_work_files.proofs.script.numbers.Given as goal
 
 abbrev pub invariant-loop-k : goal.invariant-loop-k
