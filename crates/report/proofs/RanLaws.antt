@@ -12,7 +12,7 @@ use Rattle.run.proofs.OutcomeLaws.{outcome_verdict, ran_accepting}
 use Rattle.run.specs.Outcome.{Outcome, accepted_run, run_says, outcome}
 use Rattle.run.specs.declared.Ran.{Ran}
 use Rattle.sizes.specs.Sizes.{most_arrivals, trace_numbers}
-use Rattle.summary.specs.Summary.{trace_of, summaries}
+use Rattle.summary.specs.Summary.{trace_of}
 use Rattle.workfile.specs.Work.{work}
 use Rattle.report.specs.DayReport.{refused_line, accepted_report, report_of, day_report}
 use Rattle.report.specs.Working.AfterRun.{AfterRun}
