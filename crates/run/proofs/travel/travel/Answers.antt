@@ -5,7 +5,7 @@ use mathlib.Core.List.{List, []}
 use mathlib.Core.Path.{◌≡◌, sym, ◌∙◌, ap, subst⁻¹}
 use native.Mathlib.Omega.{arith}
 use Rattle.books.proofs.Accepted.{arrivals_read, horizon_read, servers_read, fit_beside}
-use Rattle.books.proofs.Book.{lent_in, standing_at, book, turn_book, job_book, segment_book}
+use Rattle.books.proofs.Book.{lent_in, standing_at, Book, book, turn_book, job_book, segment_book}
 use Rattle.books.proofs.Jobs.FinishList.{finishes_again, finishes_length}
 use Rattle.books.proofs.Jobs.Lined.{lined_follow}
 use Rattle.books.proofs.Stretches.Turns.{bounded_end}
@@ -24,7 +24,7 @@ use Rattle.trace.proofs.WrittenLaws.{written_length}
 use Rattle.trace.specs.Trace.{begun}
 use Rattle.workfile.specs.Work.{Work, work}
 use Rattle.run.proofs.travel.travel.Goals as goal
-use Rattle.run.proofs.travel.travel.Goals.{After-from_start}
+use Rattle.run.proofs.travel.travel.Goals.{After-from_start, After-to_moment-end}
 
 pub open_all-requires : goal.open_all-requires
 open_all-requires c = omega (arith, arrivals_read _ c.header_of-h.ensures, c.requires.file_in_bounds)
@@ -116,10 +116,29 @@ to_moment-end-requires c =
       travels = starts p;
     }
 
+-- What the run leaves at the horizon.
+abbrev left : After-to_moment-end → Book
+left m =
+    let l = m.to_moment-end.new in
+    book
+    (turn_book (tree_of m.leaves_of-leaves.result l.keys) l.postponed l.interrupted (segment_book l.list m.to_moment-end.result.current))
+    (job_book l.job l.left l.finishes)
+
+came : (m : After-to_moment-end)
+    → Travels (lent_in (work m.args.file.now) m.from_start.result.moment.tick m.from_start.result.current m.args.list.now m.open_all.new.finishes)
+    (standing_at m.to_moment-end.result)
+    (left m)
+came m = m.to_moment-end.ensures.travels
+
+at_end : (m : After-to_moment-end) → (work m.args.file.now).horizon.tick ≤ m.to_moment-end.result.moment.tick
+at_end m =
+    omega (arith, horizon_read _ m.header_of-h.ensures, ap (λ (t : Moment). t.tick) m.to_moment-end.ensures.moment_value)
+
 pub end_segment-segments-requires : goal.end_segment-segments-requires
 end_segment-segments-requires c =
     let p = (goal.at.end_segment-segments-requires c).After-from_start in
-    bounded_end (bounded (fit p) c.to_moment-end.ensures.travels) (omega arith)
+    let m = (goal.at.end_segment-segments-requires c).After-to_moment-end in
+    bounded_end (bounded {b = left m} (fit p) (came m)) (omega arith)
 
 -- what a run writes over the open jobs
 again : (p : After-from_start)
@@ -128,32 +147,28 @@ again p =
     ap (finish_list (its p).arrivals (finishes (its p))) (all_open p)
     ∙ finishes_again (its p).arrivals (finishes (its p)) (λ k. is_open) (ends p)
 
--- the run has come to the horizon
-at_end : (file : List ℕ) {until moment : Moment} → until.tick ≡ (work file).horizon.tick → moment ≡ until → (work file).horizon.tick ≤ moment.tick
-at_end file horizon is = omega (arith, horizon, ap (λ (t : Moment). t.tick) is)
-
 pub shape_of-list : goal.shape_of-list
 shape_of-list c =
     let p = (goal.at.shape_of-list c).After-from_start in
-    let end = at_end c.args.file.now (horizon_read _ c.header_of-h.ensures) c.to_moment-end.ensures.moment_value in
-    ap length (c.end_segment-segments.ensures.list_after ∙ list_whole c.to_moment-end.ensures.travels end (none_seen p))
+    let m = (goal.at.shape_of-list c).After-to_moment-end in
+    ap length (c.end_segment-segments.ensures.list_after ∙ list_whole {b = left m} (came m) (at_end m) (none_seen p))
     ∙ written_length _ c.args.list.now
 
 pub shape_of-finishes : goal.shape_of-finishes
 shape_of-finishes c =
     let p = (goal.at.shape_of-finishes c).After-from_start in
-    let end = at_end c.args.file.now (horizon_read _ c.header_of-h.ensures) c.to_moment-end.ensures.moment_value in
-    ap length (finishes_whole c.to_moment-end.ensures.travels end ∙ again p) ∙ finishes_length (its p).arrivals (ends p) (finishes (its p))
+    let m = (goal.at.shape_of-finishes c).After-to_moment-end in
+    ap length (finishes_whole {b = left m} (came m) (at_end m) ∙ again p)
+    ∙ finishes_length (its p).arrivals (ends p) (finishes (its p))
 
 pub returns : goal.returns
 returns c =
     let p = (goal.at.returns c).After-from_start in
-    let came = c.to_moment-end.ensures.travels in
-    let end = at_end c.args.file.now (horizon_read _ c.header_of-h.ensures) c.to_moment-end.ensures.moment_value in
+    let m = (goal.at.returns c).After-to_moment-end in
     record {
-      list_is = c.end_segment-segments.ensures.list_after ∙ list_whole came end (none_seen p);
-      segments_is = c.end_segment-segments.ensures.value ∙ count_whole came end (none_seen p);
-      finishes_is = finishes_whole came end ∙ again p;
-      postponed_is = postponed_whole came end;
-      interrupted_is = interrupted_all came end;
+      list_is = c.end_segment-segments.ensures.list_after ∙ list_whole {b = left m} (came m) (at_end m) (none_seen p);
+      segments_is = c.end_segment-segments.ensures.value ∙ count_whole {b = left m} (came m) (at_end m) (none_seen p);
+      finishes_is = finishes_whole {b = left m} (came m) (at_end m) ∙ again p;
+      postponed_is = postponed_whole {b = left m} (came m) (at_end m);
+      interrupted_is = interrupted_all {b = left m} (came m) (at_end m);
     }
