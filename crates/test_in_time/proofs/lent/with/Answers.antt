@@ -1,17 +1,10 @@
 -- `test_in_time::lent::with` meets its promise: its ways are the cases of what a tick is given to.
-use mathlib.Core.Path.{sym, ◌∙◌}
 use native.Mathlib.Nat.{add-zero}
 use Rattle.demand_3.proofs.CourseLaws.{under_nobody}
 use Rattle.test_in_time.proofs.lent.with.Goals as goal
 
-pub returns-then-counts : goal.returns-then-counts
-returns-then-counts c = rw c.in-Ran.is rw (sym c.counts.ensures ∙ c.if-counts.true)
-
 pub returns-in-Idle : goal.returns-in-Idle
 returns-in-Idle c = rw c.in-Idle.is rw (under_nobody _ _) rw add-zero
-
-pub returns-else-counts : goal.returns-else-counts
-returns-else-counts c = rw c.in-Ran.is rw (sym c.counts.ensures ∙ c.if-counts.false) rw add-zero
 
 pub returns-in-Refused : goal.returns-in-Refused
 returns-in-Refused c = rw c.in-Refused.is rw (under_nobody _ _) rw add-zero

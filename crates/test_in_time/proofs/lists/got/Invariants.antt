@@ -1,12 +1,9 @@
 -- `test_in_time::lists::got` meets its promise: after k turns the ticks of the first k segments are added up, which are no more than all.
-use Prim.Native.Nat.{ℕ, ◌-◌, ◌≤◌, ◌<◌}
-use mathlib.Core.Path.{◌≡◌, refl, ◌∙◌, ap, subst⁻¹}
-use native.Mathlib.Omega.{arith}
-use Rattle.callers.specs.Traces.{InTime}
+use Prim.Native.Nat.{◌-◌, ◌≤◌}
+use mathlib.Core.Path.{◌≡◌}
 use Rattle.counting.specs.Sum.{sum}
-use Rattle.trace.specs.Written.{fitting, segment_in}
+use Rattle.trace.specs.Written.{segment_in}
 use Rattle.test_in_time.specs.Working.Lists.{got_of}
-use Rattle.test_in_time.proofs.ListsLaws.{sum_next, sum_next_small}
 use Rattle.test_in_time.proofs.lists.got.Given as goal
 
 abbrev pub invariant-loop-k : goal.invariant-loop-k

@@ -1,13 +1,8 @@
 -- `test_in_time::lists::is_idle` meets its promise: after k turns none of the first k jobs waits, and the first that does is enough.
-use Prim.Native.Nat.{ℕ, ◌-◌, ◌≤◌, ◌<◌}
-use borrow.Author.Tests.{not-true, not-false}
+use Prim.Native.Nat.{◌-◌, ◌≤◌}
 use lib.ListN.{get_or}
-use mathlib.Core.Bool.{Bool, true}
-use mathlib.Core.Path.{◌≡◌, refl, sym, ◌∙◌, ap}
-use native.Mathlib.Omega.{arith}
-use Rattle.arrival.specs.declared.Arrival.{Arrival}
-use Rattle.books.proofs.Accepted.{arrival_read, arrivals_read}
-use Rattle.counting.proofs.BelowLaws.{every_fails, every_next}
+use mathlib.Core.Bool.{true}
+use mathlib.Core.Path.{◌≡◌}
 use Rattle.counting.specs.Below.{every}
 use Rattle.workfile.specs.Work.{work}
 use Rattle.test_in_time.specs.Working.Lists.{is_done}

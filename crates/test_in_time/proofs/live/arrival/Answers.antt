@@ -2,9 +2,6 @@
 use Rattle.test_in_time.proofs.LiveLaws.{live_arrived}
 use Rattle.test_in_time.proofs.live.arrival.Goals as goal
 
-pub arrival-a-requires : goal.arrival-a-requires
-arrival-a-requires c = c.requires.standing.within
-
 pub returns : goal.returns
 returns c =
     live_arrived c.requires c.arrival-a.result _ _ c.arrival-a.ensures.result_value

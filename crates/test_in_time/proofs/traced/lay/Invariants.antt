@@ -1,8 +1,7 @@
 -- `test_in_time::traced::lay` is safe: the file has four bytes for each number, and no store changes its length.
 use Prim.Native.Nat.{◌-◌, ◌≤◌}
-use lib.ListN.{length, length-set}
-use mathlib.Core.Path.{◌≡◌, refl}
-use native.Mathlib.Omega.{arith}
+use lib.ListN.{length}
+use mathlib.Core.Path.{◌≡◌}
 use Rattle.test_in_time.proofs.traced.lay.Given as goal
 
 abbrev pub invariant-loop-k : goal.invariant-loop-k

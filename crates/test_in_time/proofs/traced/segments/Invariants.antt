@@ -1,8 +1,5 @@
 -- `test_in_time::traced::segments` is safe: a number below the count of those that the list holds is that of a segment in time.
 use Prim.Native.Nat.{◌-◌, ◌≤◌}
-use mathlib.Core.Path.{subst⁻¹}
-use native.Mathlib.Omega.{arith}
-use Rattle.callers.specs.Traces.{InTime}
 use Rattle.test_in_time.proofs.traced.segments.Given as goal
 
 abbrev pub invariant-loop-k : goal.invariant-loop-k
