@@ -6,14 +6,14 @@ use Rattle.day_report.proofs.print_report.Goals as goal
 pub returns-then-not-is_ended : goal.returns-then-not-is_ended
 returns-then-not-is_ended g c = inl refl
 
-pub returns-then-not-written : goal.returns-then-not-written
-returns-then-not-written g c =
+pub returns-then-is_err : goal.returns-then-is_err
+returns-then-is_err g c =
     let report = c.whole_report-end in
     let read = c.read_full-length in
-    inr (read.result, report.result, read.ensures.0, report.ensures.1)
+    inr (read.result, report.result, read.ensures.prefix_len.0, report.ensures.text_after)
 
-pub returns-else-not-written : goal.returns-else-not-written
-returns-else-not-written g c =
+pub returns : goal.returns
+returns g c =
     let report = c.whole_report-end in
     let read = c.read_full-length in
-    inr (read.result, report.result, read.ensures.0, report.ensures.1)
+    inr (read.result, report.result, read.ensures.prefix_len.0, report.ensures.text_after)

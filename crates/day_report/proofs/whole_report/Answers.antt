@@ -5,11 +5,8 @@ use Rattle.report.proofs.LengthLaws.{report_whole}
 use Rattle.page.proofs.PageLaws.{added_within}
 use Rattle.day_report.proofs.whole_report.Goals as goal
 
-pub shape_of-text : goal.shape_of-text
-shape_of-text c = c.day_report.auto.1.0
-
 pub returns : goal.returns
 returns c =
     let made = c.day_report.ensures in
     let within = added_within _ _ _ _ made in
-    ((within, sym (length-take-le _ _ within)), report_whole _ _ _ _ c.requires made)
+    record { prefix_len = (within, sym (length-take-le _ _ within)); text_after = report_whole _ _ _ _ c.requires made }
