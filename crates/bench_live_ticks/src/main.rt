@@ -1,8 +1,9 @@
 // What `bench/ticks` measures against the same in C: it ticks the dispatcher of a work file to the file's horizon, and writes what came of
-// it. The word `by_value` or `lent` chooses the form; with no word it ticks in both, one after the other.
+// it. The word `by-value` or `lent` chooses the form; with no word it ticks in both, one after the other.
 #![tactic(auto)]
 
 mod by_value;
+mod input;
 mod lent;
 mod say;
 mod tally;

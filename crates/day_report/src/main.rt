@@ -2,6 +2,8 @@
 // part of a promise; what stands between them is `report::day_report`.
 #![tactic(auto)]
 
+mod input;
+
 ghost use Rattle.std.specs.Prelude.{◌+◌, ◌≤◌, length, take, ◌≡◌};
 ghost use Rattle.std.specs.Counts.{IsPrefixLen};
 ghost use Rattle.report.specs.DayReport.{day_report, most_bytes};

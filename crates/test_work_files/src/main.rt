@@ -2,6 +2,7 @@
 #![tactic(auto)]
 
 mod case;
+mod input;
 mod say;
 mod script;
 

@@ -10,10 +10,10 @@ pub returns-then-is_err : goal.returns-then-is_err
 returns-then-is_err g c =
     let report = c.whole_report-end in
     let read = c.read_full-length in
-    inr (read.result, report.result, read.ensures.prefix_len.0, report.ensures.text_after)
+    inr (read.result, report.result, read.ensures.0, report.ensures.text_after)
 
 pub returns : goal.returns
 returns g c =
     let report = c.whole_report-end in
     let read = c.read_full-length in
-    inr (read.result, report.result, read.ensures.prefix_len.0, report.ensures.text_after)
+    inr (read.result, report.result, read.ensures.0, report.ensures.text_after)

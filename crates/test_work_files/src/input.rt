@@ -1,0 +1,18 @@
+// Standard input, read into a lent room.
+ghost use Rattle.std.specs.Counts.{IsPrefixLen};
+
+use std::io::Read;
+
+// Reads until the room is full, the input ends or a read fails, and answers how many bytes it put at the start of the room.
+pub(crate) fn read_full<R: Read>(input: &mut R, room: &mut [u8]) -> usize
+    ensures { IsPrefixLen result room.new }
+{
+    let mut done = 0;
+    while done < room.len() {
+        match input.read(&mut room[done..]) {
+            Ok(0) | Err(_) => break,
+            Ok(n) => done += n,
+        }
+    }
+    done
+}
