@@ -325,10 +325,6 @@ function tell_kit(    prelude) {
     kit_words(prelude, "◌≡◌", "`x ≡ y`", "x is y")
     kit_words(prelude, "◌⊎◌", "`A × B`, `A ⊎ B`, `Unit`, `⊥`", "both are; one of the two is; nothing is said; it cannot be")
     kit_words("Rattle·std.specs.Borrow", "Bor", "`Bor A`, `r.now`", "a reference to an A; what it refers to")
-    kit_words(prelude, "IsTrue", "`IsTrue b`", "b is true")
-    kit_words("Rattle·std.specs.Counts", "IsPrefixLen", "`IsPrefixLen n l`", "n is no more than the places of l")
-    kit_words("Rattle·std.specs.Io.KnownBytes", "Consumes IsAtEnd", "`R.remaining r`, `Consumes s t l`, `IsAtEnd s`", \
-        "what the reader r has left, where that is known; then s is l and behind it t; s is nothing")
     kit_also(prelude, "Prim.Native.Nat", "ℕ zero suc ◌+◌ ◌*◌ min max ◌≤◌ ◌<◌ ◌-◌ ◌/◌ ◌%◌")
     kit_also(prelude, "lib.Dec", "eqb leb ltb")
     kit_also(prelude, "mathlib.Core.Bool", "Bool true false not ◌&&◌ ◌||◌ cond")
@@ -616,8 +612,7 @@ END {
         "themselves](PROMISES.md#laws-that-are-read-by-themselves), and those that each promise allows one outcome and asks\n" \
         "nothing.")
     root_table("Laws that are read by themselves")
-    # What a read gives hangs on no argument, so the promises of `input` allow more than one outcome.
-    for (c = 1; c <= crates; c++) if (!root_public(crate_at[c], "law") && root_public(crate_at[c], "function") && crate_at[c] != "input")
+    for (c = 1; c <= crates; c++) if (!root_public(crate_at[c], "law") && root_public(crate_at[c], "function"))
         problem("crates/" crate_at[c] "/proofs: there is no law that the promises of this crate allow one outcome")
     end_group()
     new_group("Worked examples", "Nor on these: the examples that were worked out by hand, and what each says of the definitions.")
