@@ -9,7 +9,7 @@ use Rattle.dispatcher.specs.Moves.{Answered, leaving, Turn, turn_of}
 use Rattle.dispatcher.specs.Within.{Within}
 use Rattle.dispatcher.specs.declared.Dispatcher.{Dispatcher}
 use Rattle.dispatcher.specs.declared.TickAnswer.{TickAnswer}
-use Rattle.promise.proofs.OneOutcomeLaws.{both-are}
+use Rattle.promise.proofs.OneOutcomeLaws.{both_are}
 use Rattle.refusal.proofs.OnPaperLaws.{verdict_told}
 use Rattle.refusal.specs.Refusals.{Said, on_paper}
 use Rattle.refusal.specs.declared.Verdict.{Verdict}
@@ -27,10 +27,10 @@ left_told {B = B} says told v w d e p = (ap (λ (x : B × Dispatcher). x.0) same
 
 pub arrival_agrees : (d : Dispatcher) (server : ℕ) (cost : Length) (v w : Verdict) (e f : Dispatcher)
     → ArrivalGives d server cost v e → ArrivalGives d server cost w f → (v ≡ w) × (e ≡ f)
-arrival_agrees d server cost v w e f p q = left_told on_paper verdict_told v w e f (both-are p.0 q.0)
+arrival_agrees d server cost v w e f p q = left_told on_paper verdict_told v w e f (both_are p.0 q.0)
 
 pub tick_agrees : (d : Dispatcher) (v w : TickAnswer) (e f : Dispatcher) → TickGives d v e → TickGives d w f → (v ≡ w) × (e ≡ f)
-tick_agrees d v w e f p q = left_told turn_of turn_told v w e f (both-are p.0 q.0)
+tick_agrees d v w e f p q = left_told turn_of turn_told v w e f (both_are p.0 q.0)
 
 -- A course of moves.
 
@@ -48,7 +48,7 @@ move_agrees d a_tick a b e f ok p q =
 pub two_forms : (moves : List Move) (d : Dispatcher) (a b : Answers moves) (end stop : Dispatcher) → Within d
     → Played d moves a end → Played d moves b stop → (a ≡ b) × (end ≡ stop)
 unfolding Played
-two_forms [] d a b end stop ok p q = (refl, both-are p q)
+two_forms [] d a b end stop ok p q = (refl, both_are p q)
 two_forms (m ∷ moves) d a b end stop ok p q =
     let same = move_agrees d m a.0 b.0 p.0 q.0 ok p.1 q.1 in
     let from-there = subst (λ (e : Dispatcher). Played e moves b.1 stop) (sym same.1) q.2 in

@@ -1,6 +1,6 @@
 -- A tick's answer tells of the server that ran whether its deadline grew, and no other server's grows. So whoever counts the answers
 -- counts the postponements.
-use Prim.Native.Nat.{ℕ, suc, ◌<◌}
+use Prim.Native.Nat.{ℕ, ◌<◌}
 use borrow.Author.Tests.{eqb-true, eqb-false, ltb-true, ltb-false, le-ltb, eq-eqb, ne_eqb}
 use lib.Dec.{eqb, ltb}
 use lib.ListN.{get_or, set}

@@ -1,11 +1,11 @@
 -- `booking::first_faulty` meets its promise: after k turns none of the first k is faulty.
-use Prim.Native.Nat.{◌-◌, ◌≤◌}
+use Prim.Native.Nat.{◌-◌}
 use mathlib.Core.Path.{sym, ◌∙◌, ap}
 use native.Mathlib.Nat.{le_antisymm}
 use native.Mathlib.Omega.{arith}
 use Rattle.booking.specs.Share.{faulty_booking}
 use Rattle.booking.specs.Sheet.{table_on}
-use Rattle.booking.proofs.AdmissionLaws.{NoneFaulty, none_yet, none_more, first_found, none_found}
+use Rattle.booking.proofs.AdmissionLaws.{none_yet, none_more, first_found, none_found}
 use Rattle.booking.proofs.first_faulty.Goals as goal
 
 pub loop-k-init : goal.loop-k-init

@@ -1,12 +1,12 @@
 -- `booking::take_off` meets its promise: after so many turns what is left and as many shares are the frame.
-use Prim.Native.Nat.{◌-◌, ◌≤◌}
+use Prim.Native.Nat.{◌-◌}
 use mathlib.Core.Path.{sym, ◌∙◌, ap}
 use native.Mathlib.Nat.{le_antisymm}
 use native.Mathlib.Omega.{arith}
 use Rattle.booking.specs.Share.{faulty_booking}
 use Rattle.booking.specs.Sheet.{table_on}
 use Rattle.booking.proofs.AdmissionLaws.{none_faulty}
-use Rattle.booking.proofs.SheetLaws.{LeftBehind, left_first, left_next, left_over, left_last}
+use Rattle.booking.proofs.SheetLaws.{left_first, left_next, left_over, left_last}
 use Rattle.booking.proofs.take_off.Goals as goal
 
 pub loop-at-init : goal.loop-at-init

@@ -6,10 +6,8 @@ use lib.Dec.{eqb}
 use mathlib.Core.Path.{◌≡◌, sym, ◌∙◌}
 use native.Mathlib.Decide.{ℕ_discrete}
 use native.Mathlib.Omega.{arith}
-use Rattle.server.specs.Ranges.{Ranged}
 use Rattle.steps.proofs.StepLaws.{tick_ranged}
 use Rattle.dispatcher.specs.Moves.{ran}
-use Rattle.dispatcher.specs.Pick.{server_at}
 use Rattle.dispatcher.proofs.PickLaws.{earliest_busy, earliest_charged}
 use Rattle.dispatcher.proofs.run.Goals as goal
 

@@ -1,10 +1,8 @@
 -- `listing::sheet_of` meets its promise: after k turns the first k lines have their bookings.
-use Prim.Native.Nat.{ℕ, ◌-◌, ◌≤◌, ◌<◌}
+use Prim.Native.Nat.{◌-◌, ◌≤◌}
 use mathlib.Core.Path.{◌≡◌}
-use native.Mathlib.Numerals.{add-one}
-use native.Mathlib.Omega.{arith}
 use Rattle.booking.specs.Share.{booked}
-use Rattle.counting.proofs.PlacesLaws.{filled, filled_none, filled_more, filled_whole}
+use Rattle.counting.proofs.PlacesLaws.{filled}
 use Rattle.counting.specs.Places.{places}
 use Rattle.sizes.specs.Sizes.{most_servers}
 use Rattle.workfile.specs.Work.{work_under}

@@ -5,8 +5,7 @@ use mathlib.Core.Path.{◌≡◌}
 use native.Mathlib.Numerals.{add-one}
 use native.Mathlib.Omega.{arith}
 use Rattle.booking.specs.Share.{booked}
-use Rattle.counting.proofs.PlacesLaws.{filled, filled_none, filled_more, filled_whole}
-use Rattle.counting.specs.Places.{places}
+use Rattle.counting.proofs.PlacesLaws.{filled_none, filled_more, filled_whole}
 use Rattle.sizes.specs.Sizes.{most_servers}
 use Rattle.opening.specs.Opening.{listed, out_of_range}
 use Rattle.clock.specs.declared.Length.{Length}

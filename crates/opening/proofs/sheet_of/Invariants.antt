@@ -1,15 +1,12 @@
 -- `opening::sheet_of` meets its promise: after k turns the first k lines have their bookings, and behind the last one there is none.
-use Prim.Native.Nat.{ℕ, ◌/◌, ◌-◌, ◌≤◌, ◌<◌}
+use Prim.Native.Nat.{◌/◌, ◌-◌, ◌≤◌}
 use lib.ListN.{length}
 use mathlib.Core.Path.{◌≡◌}
-use native.Mathlib.Numerals.{add-one}
-use native.Mathlib.Omega.{arith}
 use Rattle.booking.specs.Share.{booked}
-use Rattle.counting.proofs.PlacesLaws.{filled, filled_none, filled_more, filled_whole}
+use Rattle.counting.proofs.PlacesLaws.{filled}
 use Rattle.counting.specs.Places.{places}
 use Rattle.sizes.specs.Sizes.{most_servers}
 use Rattle.opening.specs.Opening.{listed}
-use Rattle.opening.proofs.OpeningLaws.{in_range, listed_behind}
 use Rattle.opening.proofs.sheet_of.Given as goal
 
 abbrev pub invariant-loop-k : goal.invariant-loop-k

@@ -1,15 +1,11 @@
 -- `opening::start` meets its promise: after k turns the places are those of the table's first k servers.
-use Prim.Native.Nat.{◌/◌, ◌-◌, ◌≤◌}
-use lib.ListN.{length}
-use mathlib.Core.Path.{◌≡◌, refl}
+use Prim.Native.Nat.{◌-◌}
+use mathlib.Core.Path.{refl}
 use native.Mathlib.Nat.{le_antisymm}
 use native.Mathlib.Numerals.{add-one}
 use native.Mathlib.Omega.{arith}
-use Rattle.counting.specs.Places.{places}
-use Rattle.dispatcher.specs.Start.{start_at, at_start}
-use Rattle.dispatcher.proofs.StartLaws.{first_of, start_none, start_more}
-use Rattle.sizes.specs.Sizes.{most_servers}
-use Rattle.opening.specs.Opening.{listed}
+use Rattle.dispatcher.specs.Start.{at_start}
+use Rattle.dispatcher.proofs.StartLaws.{start_none, start_more}
 use Rattle.opening.proofs.start.Goals as goal
 
 pub loop-k-init : goal.loop-k-init

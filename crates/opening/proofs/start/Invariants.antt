@@ -1,13 +1,10 @@
 -- `opening::start` meets its promise: after k turns the places are those of the table's first k servers.
 use Prim.Native.Nat.{◌/◌, ◌-◌, ◌≤◌}
 use lib.ListN.{length}
-use mathlib.Core.Path.{◌≡◌, refl}
-use native.Mathlib.Nat.{le_antisymm}
-use native.Mathlib.Numerals.{add-one}
-use native.Mathlib.Omega.{arith}
+use mathlib.Core.Path.{◌≡◌}
 use Rattle.counting.specs.Places.{places}
-use Rattle.dispatcher.specs.Start.{start_at, at_start}
-use Rattle.dispatcher.proofs.StartLaws.{first_of, start_none, start_more}
+use Rattle.dispatcher.specs.Start.{start_at}
+use Rattle.dispatcher.proofs.StartLaws.{first_of}
 use Rattle.sizes.specs.Sizes.{most_servers}
 use Rattle.opening.specs.Opening.{listed}
 use Rattle.opening.proofs.start.Given as goal

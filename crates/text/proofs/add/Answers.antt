@@ -1,9 +1,7 @@
 -- `text::add` meets its promise: after k bytes the page is the one that was lent with the first k added.
-use Prim.Native.Nat.{◌-◌, ◌≤◌}
-use lib.ListN.{length, take}
-use mathlib.Core.Path.{◌≡◌, sym}
+use Prim.Native.Nat.{◌-◌}
+use mathlib.Core.Path.{sym}
 use native.Mathlib.Omega.{arith}
-use Rattle.page.specs.Page.{page, added}
 use Rattle.page.proofs.PageLaws.{added_none, added_next, added_all, added_kept}
 use Rattle.text.proofs.add.Goals as goal
 

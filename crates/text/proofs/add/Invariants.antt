@@ -1,10 +1,8 @@
 -- `text::add` meets its promise: after k bytes the page is the one that was lent with the first k added.
 use Prim.Native.Nat.{◌-◌, ◌≤◌}
 use lib.ListN.{length, take}
-use mathlib.Core.Path.{◌≡◌, sym}
-use native.Mathlib.Omega.{arith}
+use mathlib.Core.Path.{◌≡◌}
 use Rattle.page.specs.Page.{page, added}
-use Rattle.page.proofs.PageLaws.{added_none, added_next, added_all, added_kept}
 use Rattle.text.proofs.add.Given as goal
 
 abbrev pub invariant-loop-k : goal.invariant-loop-k

@@ -1,8 +1,7 @@
 -- `dispatcher::picking::pick` meets its promise: after i turns `best` is the earliest of the first i servers, or none of them works.
 use Rattle.std.proofs.Common.{refl, arith}
 use native.Mathlib.Nat.{not-suc-le-zero}
-use native.Mathlib.Numerals.{add-one}
-use Rattle.dispatcher.proofs.SofarLaws.{Sofar, nobody, somebody, takes_over, stays, ended}
+use Rattle.dispatcher.proofs.SofarLaws.{nobody, ended}
 use Rattle.dispatcher.proofs.picking.pick.Goals as goal
 
 pub loop-i-init : goal.loop-i-init
