@@ -5,7 +5,9 @@ use mathlib.Core.Path.{◌≡◌, refl, sym, ap, subst⁻¹}
 use native.Mathlib.Numerals.{add-one}
 use native.Mathlib.Omega.{arith}
 use Rattle.dispatcher.proofs.MoveLaws.{tick_within}
-use Rattle.dispatcher.specs.Moves.{leaving, Answered, Turn, idled, ran_one, tick}
+use Rattle.dispatcher.specs.Moves.{leaving, Answered, tick}
+use Rattle.dispatcher.specs.declared.Turn.{Turn}
+use Rattle.dispatcher.specs.declared.Turn.TheVariants.{Idle, Ran}
 use Rattle.dispatcher.specs.Within.{Within}
 use Rattle.dispatcher.specs.declared.Dispatcher.{Dispatcher}
 use Rattle.refusal.specs.Refusals.{Said, refused, gave}
@@ -43,9 +45,9 @@ counted_up {k} t said few = go said
 
     go : (said : Said Turn) → UpTo (suc k) (counted t said)
     go (refused number place) = up (omega arith) (omega arith) (omega arith)
-    go (gave idled) = up (omega arith) (omega arith) (omega arith)
-    go (gave (ran_one i deadline true)) = up (omega arith) (omega arith) (omega arith)
-    go (gave (ran_one i deadline false)) = up (omega arith) (omega arith) (omega arith)
+    go (gave Idle) = up (omega arith) (omega arith) (omega arith)
+    go (gave (Ran i deadline true)) = up (omega arith) (omega arith) (omega arith)
+    go (gave (Ran i deadline false)) = up (omega arith) (omega arith) (omega arith)
 
 pub tallied_up : (d : Dispatcher) (k : ℕ) → UpTo k (tallied d k).tally
 unfolding tallied

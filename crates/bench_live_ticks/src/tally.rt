@@ -1,9 +1,10 @@
 // What the answers of ticks come to.
 ghost use Rattle.std.specs.Prelude.{◌-◌, ◌^◌, ◌≡◌};
-ghost use Rattle.dispatcher.specs.Moves.{turn_of};
+ghost use Rattle.refusal.specs.Refusals.{on_paper};
 ghost use Rattle.bench_live_ticks.specs.Working.Ticks.{UpTo, counted};
 
-use dispatcher::{Dispatcher, TickAnswer};
+use dispatcher::{Dispatcher, Turn};
+use refusal::Refusal;
 
 #[derive(Clone, Copy)]
 pub struct Tally {
@@ -28,21 +29,21 @@ pub(crate) const NONE: Tally = Tally {
 };
 
 // Of one tick more. A refused one does not count.
-pub(crate) fn with(mut t: Tally, answer: TickAnswer) -> Tally
+pub(crate) fn with(mut t: Tally, answer: Result<Turn, Refusal>) -> Tally
     requires { UpTo (2 ^ 64 - 2) t }
-    ensures { result ≡ counted t (turn_of answer) }
+    ensures { result ≡ counted t (on_paper answer) }
 {
     match answer {
-        TickAnswer::Idle => t.idle += 1,
-        TickAnswer::Ran {
+        Ok(Turn::Idle) => t.idle += 1,
+        Ok(Turn::Ran {
             server: _,
             deadline: _,
             postponed,
-        } => {
+        }) => {
             t.ran += 1;
             t.postponed += postponed as u64;
         }
-        TickAnswer::Refused(_) => (),
+        Err(_) => (),
     }
     t
 }

@@ -2,12 +2,12 @@
 use Rattle.promise.specs.AsksNothing.{AsksNothing}
 use Rattle.promise.specs.OneOutcome.{OneOutcome}
 use Rattle.promise.proofs.OneOutcomeLaws.{both_are}
-use Rattle.refusal.proofs.OnPaperLaws.{verdict_told}
+use Rattle.refusal.proofs.OnPaperLaws.{answer_told}
 use Rattle.booking.proofs.admit.Reads as admit
 use Rattle.booking.proofs.left_on.Reads as left-on
 
 pub admit_one : OneOutcome admit.Post
-admit_one l a x y at_x at_y p q = verdict_told x y (both_are p q)
+admit_one l a x y at_x at_y p q = answer_told x y (both_are p q)
 
 pub admit_asks : AsksNothing admit.Pre
 admit_asks l a given = tt

@@ -11,7 +11,7 @@ ghost use Rattle.booking.specs.Sheet.{left_of, table_on};
 ghost use Rattle.booking.specs.Working.Foot.{foot_of};
 
 use clock::Length;
-use refusal::{Refusal, Verdict};
+use refusal::Refusal;
 
 #[derive(Clone, Copy)]
 pub struct Booking {
@@ -43,14 +43,14 @@ enum Foot {
 }
 
 // The verdict on the table of a sheet: 4 at the first faulty server, then 5.
-pub fn admit(sheet: Sheet) -> Verdict
+pub fn admit(sheet: Sheet) -> Result<(), Refusal>
     ensures { on_paper result ≡ admission sheet.frame (table_on sheet) }
 {
     let foot = foot_of(sheet);
     match foot {
-        Foot::Faulty(first) => Verdict::Refused(Refusal::FaultyServer(first)),
-        Foot::Over => Verdict::Refused(Refusal::Shares),
-        Foot::Left(_) => Verdict::Accepted,
+        Foot::Faulty(first) => Err(Refusal::FaultyServer(first)),
+        Foot::Over => Err(Refusal::Shares),
+        Foot::Left(_) => Ok(()),
     }
 }
 

@@ -12,17 +12,17 @@ use Rattle.demand_3.proofs.StandingLaws.{Standing, start_standing, after_standin
 use Rattle.demand_3.specs.Demand3.{Demand3}
 use Rattle.demand_3.specs.Got.{given_by, is_under, got, WithinBandwidth}
 use Rattle.dispatcher.specs.Course.{Move, an_arrival, a_tick, moved, after}
-use Rattle.dispatcher.specs.Moves.{Answered, Turn, ran_one, arrival, arrival_says, tick, tick_says, turn_of}
+use Rattle.dispatcher.specs.Moves.{Answered, arrival, reply_says, tick}
+use Rattle.dispatcher.specs.declared.Turn.{Turn}
+use Rattle.dispatcher.specs.declared.Turn.TheVariants.{Ran}
 use Rattle.dispatcher.specs.Pick.{server_at}
-use Rattle.dispatcher.specs.declared.Arrived.{Arrived}
+use Rattle.dispatcher.specs.declared.Reply.{Reply}
 use Rattle.dispatcher.specs.declared.Dispatcher.{Dispatcher}
-use Rattle.dispatcher.specs.declared.Ticked.{Ticked}
 use Rattle.moments.specs.Moments.{choice_of}
 use Rattle.opening.proofs.OpeningLaws.{accepted_in_range, accepted_admitted, opening_accepted, opened_judged}
-use Rattle.opening.specs.Opening.{listed, table_judged, opening, opening_says}
-use Rattle.opening.specs.declared.Opened.{Opened}
+use Rattle.opening.specs.Opening.{listed, table_judged, opening, reply_says}
 use Rattle.refusal.specs.Refusals.{gave, accepted}
-use Rattle.refusal.specs.declared.Verdict.TheVariants.{Accepted}
+use Rattle.std.specs.Prelude.{Ok}
 use Rattle.server.specs.Server.{idle}
 use Rattle.callers.specs.Live.{Led, LedCounting, OfAcceptedOpenings, WhereverMovesLead}
 
@@ -38,19 +38,19 @@ live_demand_3 start t demand d led =
       deadlines_ahead = λ i known. rw (sym led.to) at (demand.deadlines_ahead led.moves i known);
       ticks_in_time = λ r e i deadline postponed answer.
           rw (ap (λ (m : Answered Turn). m.dispatcher) e)
-          (in_time i deadline postponed (sym (ap (λ (m : Answered Turn). m.answer) e) ∙ ap turn_of answer));
+          (in_time i deadline postponed (sym (ap (λ (m : Answered Turn). m.answer) e) ∙ ap on_paper answer));
     }
   where
     bounded : (i : ℕ) → i < t.count → idle (server_at d i) ≡ true → (b : Moment) (further : List Move)
         → WithinBandwidth (t.booking i) d.clock b (got i b d further)
     bounded i known = rw (sym led.to) at (demand.bandwidth led.moves i known)
 
-    in_time : (i : ℕ) (deadline : Moment) (postponed : Bool) → (tick d).answer ≡ gave (ran_one i deadline postponed)
+    in_time : (i : ℕ) (deadline : Moment) (postponed : Bool) → (tick d).answer ≡ gave (Ran i deadline postponed)
         → (tick d).dispatcher.clock.tick ≤ deadline.tick
     in_time i deadline postponed = rw (sym led.to) at (demand.ticks_in_time led.moves i deadline postponed)
 
--- What a caller has by the contract of `open_table`, where it answers `Accepted`.
-module _ (l : List ℕ) (H : Length) (r : Opened) (e : opening_says r ≡ opening l H) (answer : r.answer ≡ Accepted) where
+-- What a caller has by the contract of `open_table`, where it answers `Ok`.
+module _ (l : List ℕ) (H : Length) (r : Reply (Unit {0})) (e : reply_says r ≡ opening l H) (answer : r.answer ≡ Ok tt) where
   judges : table_judged l H ≡ accepted
   judges = opened_judged l H r e answer
 
@@ -68,11 +68,11 @@ module _ (l : List ℕ) (H : Length) (r : Opened) (e : opening_says r ≡ openin
       led.moves)
 
 -- What the contracts of `arrival` and `tick` say of the dispatcher: it is the one after that move.
-arrived_moved : (d : Dispatcher) (r : Arrived) (i : ℕ) (cost : Length) → arrival_says r ≡ arrival d i cost
+arrived_moved : (d : Dispatcher) (r : Reply (Unit {0})) (i : ℕ) (cost : Length) → reply_says r ≡ arrival d i cost
     → r.dispatcher ≡ moved d (an_arrival i cost)
 arrived_moved d r i cost e = ap (λ (m : Answered (Unit {0})). m.dispatcher) e
 
-ticked_moved : (d : Dispatcher) (r : Ticked) → tick_says r ≡ tick d → r.dispatcher ≡ moved d a_tick
+ticked_moved : (d : Dispatcher) (r : Reply Turn) → reply_says r ≡ tick d → r.dispatcher ≡ moved d a_tick
 ticked_moved d r e = ap (λ (m : Answered Turn). m.dispatcher) e
 
 -- So moves have led there, with one more at their end.
@@ -89,10 +89,10 @@ module _ {start d : Dispatcher} (led : Led start d) where
   pub led_moved : (m : Move) (e : Dispatcher) → e ≡ moved d m → Led start e
   led_moved m e is = record { moves = led.moves ++ m ∷ []; to = moved_on start led.moves led.to m is }
 
-  pub led_arrived : (r : Arrived) (i : ℕ) (cost : Length) → arrival_says r ≡ arrival d i cost → Led start r.dispatcher
+  pub led_arrived : (r : Reply (Unit {0})) (i : ℕ) (cost : Length) → reply_says r ≡ arrival d i cost → Led start r.dispatcher
   led_arrived r i cost e = led_moved (an_arrival i cost) r.dispatcher (arrived_moved d r i cost e)
 
-  pub led_ticked : (r : Ticked) → tick_says r ≡ tick d → Led start r.dispatcher
+  pub led_ticked : (r : Reply Turn) → reply_says r ≡ tick d → Led start r.dispatcher
   led_ticked r e = led_moved a_tick r.dispatcher (ticked_moved d r e)
 
 -- And how it counts.
@@ -124,14 +124,14 @@ module _ {i : ℕ} {b : Moment} {start d : Dispatcher} {n : ℕ} (led : LedCount
       }
 
   -- an arrival counts nothing
-  pub counting_arrived : (r : Arrived) (j : ℕ) (cost : Length) → arrival_says r ≡ arrival d j cost → LedCounting i b start r.dispatcher n
+  pub counting_arrived : (r : Reply (Unit {0})) (j : ℕ) (cost : Length) → reply_says r ≡ arrival d j cost → LedCounting i b start r.dispatcher n
   counting_arrived r j cost e =
       subst (LedCounting i b start r.dispatcher) (add-zero n)
       (counting_moved (an_arrival j cost) r.dispatcher (arrived_moved d r j cost e) 0 (rw (under_nobody i b)))
 
   -- a tick counts one where it answers server i and a deadline no later than b
-  pub counting_ticked : (r : Ticked) → tick_says r ≡ tick d
-      → LedCounting i b start r.dispatcher (n + cond (is_under i b (choice_of (turn_of r.answer))) 1 0)
+  pub counting_ticked : (r : Reply Turn) → reply_says r ≡ tick d
+      → LedCounting i b start r.dispatcher (n + cond (is_under i b (choice_of (on_paper r.answer))) 1 0)
   counting_ticked r e =
       counting_moved a_tick r.dispatcher (ticked_moved d r e) _
       (ap (λ (m : Answered Turn). cond (is_under i b (choice_of m.answer)) 1 0) e)

@@ -15,7 +15,7 @@ use Rattle.demand_3.specs.Files.{NoWorkAt, FileDemand3}
 use Rattle.demand_3.specs.Got.{is_under}
 use Rattle.dispatcher.specs.Pick.{server_at}
 use Rattle.moments.specs.Moments.{at_moment, history, waiting_at}
-use Rattle.refusal.specs.declared.Verdict.TheVariants.{Accepted}
+use Rattle.std.specs.Prelude.{Ok}
 use Rattle.run.proofs.OutcomeLaws.{outcome_accepted, ran_judged, ran_accepting}
 use Rattle.run.specs.Outcome.{Outcome, run_says, outcome}
 use Rattle.run.specs.declared.Ran.{Ran}
@@ -70,9 +70,9 @@ list_demand_3 file list ends e =
     subst⁻¹ (λ (o : Outcome). ListDemand3 (work file) o.segments o.trace_left) (outcome_accepted file list ends e)
     (written_demand_3 (trace_demand_3 file (length ends) e) list)
 
--- Of a call of `run`, by its contract, that answers `Accepted`.
+-- Of a call of `run`, by its contract, that answers `Ok`.
 module _ (file list ends after ended : List ℕ) (r : Ran) (said : run_says r after ended ≡ outcome file list ends)
-    (answer : r.verdict ≡ Accepted) where
+    (answer : r.verdict ≡ Ok tt) where
   -- its file's run satisfies demand 3
   pub ran_file_demand_3 : FileDemand3 (work file)
   ran_file_demand_3 = file_demand_3 file (length ends) (ran_judged file list ends after ended r said answer)

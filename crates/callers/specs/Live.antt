@@ -6,11 +6,11 @@ use Rattle.clock.specs.declared.Moment.{Moment}
 use Rattle.demand_3.specs.Demand3.{Demand3}
 use Rattle.demand_3.specs.Got.{got, WithinBandwidth}
 use Rattle.dispatcher.specs.Course.{Move, after}
-use Rattle.dispatcher.specs.Moves.{tick, tick_says}
+use Rattle.dispatcher.specs.Moves.{tick, reply_says}
 use Rattle.dispatcher.specs.Pick.{server_at}
 use Rattle.dispatcher.specs.declared.Dispatcher.{Dispatcher}
-use Rattle.dispatcher.specs.declared.TickAnswer.TheVariants.{Ran}
-use Rattle.dispatcher.specs.declared.Ticked.{Ticked}
+use Rattle.dispatcher.specs.declared.Turn.TheVariants.{Ran}
+use Rattle.dispatcher.specs.declared.Reply.{Reply}
 use Rattle.opening.specs.Opening.{listed, table_judged, opening}
 use Rattle.refusal.specs.Refusals.{accepted}
 use Rattle.server.specs.Server.{idle}
@@ -35,8 +35,8 @@ pub record LiveDemand3 (t : Table) (d : Dispatcher) : Type 0 where
   -- a server with work waiting has its deadline ahead
   pub deadlines_ahead : (i : ℕ) → i < t.count → idle (server_at d i) ≡ false → d.clock.tick < (server_at d i).deadline.tick
   -- a tick that answers a server and a deadline has ended by that deadline
-  pub ticks_in_time : (r : Ticked) → tick_says r ≡ tick d → (i : ℕ) (deadline : Moment) (postponed : Bool)
-      → r.answer ≡ Ran i deadline postponed → r.dispatcher.clock.tick ≤ deadline.tick
+  pub ticks_in_time : (r : Reply Turn) → reply_says r ≡ tick d → (i : ℕ) (deadline : Moment) (postponed : Bool)
+      → r.answer ≡ Ok (Ran i deadline postponed) → r.dispatcher.clock.tick ≤ deadline.tick
 
 -- Of every live table, a list of Q, T pairs and H, that is accepted; and of wherever moves lead from there. `LiveLaws` proves both.
 abbrev pub OfAcceptedOpenings : Type 0

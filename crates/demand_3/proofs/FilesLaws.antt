@@ -14,7 +14,9 @@ use Rattle.clock.specs.declared.Moment.{Moment}
 use Rattle.counting.proofs.CountLaws.{count_empty}
 use Rattle.dispatcher.proofs.PickLaws.{earliest_busy}
 use Rattle.dispatcher.specs.Course.{Move, after}
-use Rattle.dispatcher.specs.Moves.{Turn, idled, ran_one, tick}
+use Rattle.dispatcher.specs.Moves.{tick}
+use Rattle.dispatcher.specs.declared.Turn.{Turn}
+use Rattle.dispatcher.specs.declared.Turn.TheVariants.{Idle, Ran}
 use Rattle.dispatcher.specs.Pick.{server_at, Earliest}
 use Rattle.dispatcher.specs.Start.{at_start}
 use Rattle.dispatcher.specs.Within.{Within}
@@ -143,8 +145,8 @@ module _ {w : Work} {places : ℕ} (fit : Fit w places) where
       → choice_of said ≡ given i deadline → a + 1 ≤ deadline.tick
   unfolding turn
   in_time i a deadline h (refused number place) q e = absurd (nobody≢given e)
-  in_time i a deadline h (gave idled) q e = absurd (nobody≢given e)
-  in_time i a deadline h (gave (ran_one j under postponed)) q e =
+  in_time i a deadline h (gave Idle) q e = absurd (nobody≢given e)
+  in_time i a deadline h (gave (Ran j under postponed)) q e =
       let later = (rw (ready_reached a) at (demand.ticks_in_time (moves_to a w.arrivals) j under postponed)) q in
       rw (sym (given_deadline e)) (omega (arith, rw (next_clock a h) at later))
 

@@ -14,7 +14,9 @@ use Rattle.clock.specs.Clock.{later, ticks}
 use Rattle.clock.specs.declared.Length.{Length}
 use Rattle.dispatcher.proofs.MoveLaws.{tick_ended, tick_idle, tick_ran}
 use Rattle.dispatcher.proofs.PickLaws.{picked_earliest, picked_none}
-use Rattle.dispatcher.specs.Moves.{Answered, leaving, Turn, refusing, too_much_work, arrival, idled, one_later, ran, tick}
+use Rattle.dispatcher.specs.Moves.{Answered, leaving, refusing, too_much_work, arrival, one_later, ran, tick}
+use Rattle.dispatcher.specs.declared.Turn.{Turn}
+use Rattle.dispatcher.specs.declared.Turn.TheVariants.{Idle}
 use Rattle.dispatcher.specs.Pick.{server_at, picked, Earliest, NoneWorks}
 use Rattle.dispatcher.specs.Within.{Within}
 use Rattle.dispatcher.specs.declared.Dispatcher.{Dispatcher}
@@ -75,7 +77,7 @@ module _ {d : Dispatcher} (ok : Within d) where
   -- A tick by its definition.
   data Way : Type 0 where
     by_refusal : tick d ≡ refusing d 10 → Way
-    by_nobody : NoneWorks d d.count → tick d ≡ leaving (gave idled) (one_later d) → Way
+    by_nobody : NoneWorks d d.count → tick d ≡ leaving (gave Idle) (one_later d) → Way
     by_server : (p : ℕ) → Earliest d d.count p → tick d ≡ ran d p → Way
 
   way : Way

@@ -7,7 +7,8 @@ use Rattle.booking.specs.Admission.{Table, admission}
 use Rattle.clock.specs.declared.Length.{Length}
 use Rattle.clock.specs.declared.Moment.{Moment}
 use Rattle.dispatcher.specs.Course.{Move, after}
-use Rattle.dispatcher.specs.Moves.{ran_one, tick}
+use Rattle.dispatcher.specs.Moves.{tick}
+use Rattle.dispatcher.specs.declared.Turn.TheVariants.{Ran}
 use Rattle.dispatcher.specs.Pick.{server_at}
 use Rattle.dispatcher.specs.Start.{at_start}
 use Rattle.dispatcher.specs.declared.Dispatcher.{Dispatcher}
@@ -28,7 +29,7 @@ pub record Demand3 (start : Dispatcher) (t : Table) : Type 0 where
       → (after start moves).clock.tick < (server_at (after start moves) i).deadline.tick
   -- And a tick that is given to a server ends no later than the deadline that it was given under.
   pub ticks_in_time : (moves : List Move) (i : ℕ) (deadline : Moment) (postponed : Bool)
-      → (tick (after start moves)).answer ≡ gave (ran_one i deadline postponed)
+      → (tick (after start moves)).answer ≡ gave (Ran i deadline postponed)
       → (tick (after start moves)).dispatcher.clock.tick ≤ deadline.tick
 
 -- "On an admitted table, from a fresh start": of every frame and table within the sizes of the rules. `Demand3Laws` proves it.

@@ -20,7 +20,8 @@ use Rattle.server.specs.Server.{vacant}
 use Rattle.server.specs.declared.Server.{Server}
 use Rattle.sizes.specs.Sizes.{clock_end, most_waiting}
 use Rattle.dispatcher.specs.declared.Dispatcher.{Dispatcher}
-use Rattle.dispatcher.specs.Moves.{Answered, leaving, standing, with_server, refusing, too_much_work, arrival, idled, ran_one, one_later, ran, tick}
+use Rattle.dispatcher.specs.Moves.{Answered, leaving, standing, with_server, refusing, too_much_work, arrival, one_later, ran, tick}
+use Rattle.dispatcher.specs.declared.Turn.TheVariants.{Idle, Ran}
 use Rattle.dispatcher.specs.Pick.{server_at, picked, Earliest}
 use Rattle.dispatcher.proofs.PickLaws.{earliest_busy, picked_earliest}
 use Rattle.dispatcher.specs.Within.{Within}
@@ -52,7 +53,7 @@ module _ (d : Dispatcher) where
   tick_ran h p = rw (ne_eqb _ _ h, lt-ltb _ _ p)
 
   pub tick_idle : (d.clock.tick ≡ clock_end → ⊥) → d.count ≤ picked d
-      → tick d ≡ leaving (gave idled) (one_later d)
+      → tick d ≡ leaving (gave Idle) (one_later d)
   unfolding tick
   tick_idle h p = rw (ne_eqb _ _ h, le-ltb _ _ p)
 
@@ -66,7 +67,7 @@ module _ (d : Dispatcher) where
 
   pub ran_is : (i : ℕ)
       → ran d i
-      ≡ leaving (gave (ran_one i (server_at d i).deadline (spends_last (server_at d i))))
+      ≡ leaving (gave (Ran i (server_at d i).deadline (spends_last (server_at d i))))
       (standing d (later d.clock (ticks 1)) (set d.servers i (served (server_at d i))))
   unfolding ran
   ran_is i = refl

@@ -1,31 +1,19 @@
 -- What a move says on paper tells what it handed back.
-use mathlib.Core.Path.{◌≡◌, refl, sym, ◌∙◌, ap, ap₂}
-use Rattle.refusal.proofs.OnPaperLaws.{refusal_of, refusal_back}
-use Rattle.refusal.specs.Refusals.{Said, refused, gave}
+use mathlib.Core.Path.{◌≡◌, ap, ap₂}
+use Rattle.refusal.proofs.OnPaperLaws.{answer_told}
+use Rattle.refusal.specs.Refusals.{on_paper}
+use Rattle.refusal.specs.declared.Refusal.{Refusal}
+use Rattle.std.specs.Prelude.{Result}
 use Rattle.dispatcher.specs.declared.Dispatcher.{Dispatcher}
-use Rattle.dispatcher.specs.declared.TickAnswer.{TickAnswer}
-use Rattle.dispatcher.specs.declared.TickAnswer.TheVariants.{Idle, Ran, Refused}
-use Rattle.dispatcher.specs.Moves.{Answered, Turn, idled, ran_one, turn_of}
+use Rattle.dispatcher.specs.declared.Reply.{Reply}
+use Rattle.dispatcher.specs.Moves.{Answered, leaving, reply_says}
 
--- Of a struct that is made of an answer and a dispatcher: where what answers say tells them, what the struct says tells it.
-pub moved_told : {A B R : Type 0} (says : B → Said A) (told : (v w : B) → says v ≡ says w → v ≡ w) (made : B → Dispatcher → R)
-    (v w : B) (d e : Dispatcher)
-    → ◌≡◌ {A = Answered A} (record { answer = says v; dispatcher = d }) (record { answer = says w; dispatcher = e })
-    → made v d ≡ made w e
-moved_told says told made v w d e p =
-    ap₂ made (told v w (ap (λ (m : Answered _). m.answer) p)) (ap (λ (m : Answered _). m.dispatcher) p)
+-- Of whatever is made of an answer and a dispatcher: what it says tells it.
+pub moved_told : {A R : Type 0} (made : Result A Refusal → Dispatcher → R) (v w : Result A Refusal) (d e : Dispatcher)
+    → leaving (on_paper v) d ≡ leaving (on_paper w) e → made v d ≡ made w e
+moved_told made v w d e p =
+    ap₂ made (answer_told v w (ap (λ (m : Answered _). m.answer) p)) (ap (λ (m : Answered _). m.dispatcher) p)
 
--- the answer of a tick
-answer_of : Said Turn → TickAnswer
-answer_of (refused n k) = Refused (refusal_of n k)
-answer_of (gave idled) = Idle
-answer_of (gave (ran_one i deadline postponed)) = Ran i deadline postponed
-
-answer_back : (a : TickAnswer) → answer_of (turn_of a) ≡ a
-unfolding answer_of
-answer_back Idle = refl
-answer_back (Ran i deadline postponed) = refl
-answer_back (Refused r) = ap Refused (refusal_back r)
-
-pub turn_told : (a b : TickAnswer) → turn_of a ≡ turn_of b → a ≡ b
-turn_told a b e = sym (answer_back a) ∙ ap answer_of e ∙ answer_back b
+-- what a reply says tells it
+pub reply_told : {A : Type 0} (r s : Reply A) → reply_says r ≡ reply_says s → r ≡ s
+reply_told r s = moved_told (λ v d. record { answer = v; dispatcher = d }) r.answer s.answer r.dispatcher s.dispatcher

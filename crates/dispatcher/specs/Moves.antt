@@ -4,15 +4,14 @@ use Rattle.arrival.specs.Arrival.{faulty_arrival}
 use Rattle.clock.specs.Clock.{later, ticks}
 use Rattle.clock.specs.declared.Length.{Length}
 use Rattle.clock.specs.declared.Moment.{Moment}
-use Rattle.refusal.specs.Refusals.{number_of, place_of, Said, refused, gave, accepted, on_paper}
+use Rattle.refusal.specs.Refusals.{Said, refused, gave, accepted, on_paper}
 use Rattle.server.specs.Moves.{arrived, spends_last, served}
 use Rattle.server.specs.declared.Server.{Server}
 use Rattle.sizes.specs.Sizes.{clock_end, most_waiting}
-use Rattle.dispatcher.specs.declared.Arrived.{Arrived}
 use Rattle.dispatcher.specs.declared.Dispatcher.{Dispatcher}
-use Rattle.dispatcher.specs.declared.TickAnswer.{TickAnswer}
-use Rattle.dispatcher.specs.declared.TickAnswer.TheVariants.{Idle, Ran, Refused}
-use Rattle.dispatcher.specs.declared.Ticked.{Ticked}
+use Rattle.dispatcher.specs.declared.Reply.{Reply}
+use Rattle.dispatcher.specs.declared.Turn.{Turn}
+use Rattle.dispatcher.specs.declared.Turn.TheVariants.{Idle, Ran}
 use Rattle.dispatcher.specs.Pick.{server_at, picked}
 
 -- what is said, and the dispatcher with it: a move leaves one, and an opening hands one back
@@ -22,6 +21,10 @@ pub record Answered (A : Type 0) : Type 0 where
 
 abbrev pub leaving : {A : Type 0} → Said A → Dispatcher → Answered A
 leaving said d = record { answer = said; dispatcher = d }
+
+-- what a reply says
+abbrev pub reply_says : {A : Type 0} → Reply A → Answered A
+reply_says r = leaving (on_paper r.answer) r.dispatcher
 
 -- the dispatcher at moment t with these servers: no move alters H and n
 abbrev pub standing : Dispatcher → Moment → List Server → Dispatcher
@@ -48,16 +51,7 @@ arrival d i cost =
     (cond (too_much_work d i cost) (refusing d 11)
     (leaving accepted (with_server d i (arrived (server_at d i) d.clock cost))))
 
--- what the struct that an arrival answers says
-abbrev pub arrival_says : Arrived → Answered (Unit {0})
-arrival_says r = leaving (on_paper r.answer) r.dispatcher
-
--- A tick.
-
--- "A tick answers idle, or the server, the deadline it ran under and whether it postponed."
-pub data Turn : Type 0 where
-  idled : Turn
-  ran_one : (server : ℕ) (deadline : Moment) (postponed : Bool) → Turn
+-- A tick: "A tick answers idle, or the server, the deadline it ran under and whether it postponed."
 
 -- Step 4: "The clock is t + 1."
 abbrev pub one_later : Dispatcher → Dispatcher
@@ -66,7 +60,7 @@ one_later d = standing d (later d.clock (ticks 1)) d.servers
 -- server i runs: step 3 at it, then step 4. The deadline is "the one in force before step 3".
 unfoldable pub ran : Dispatcher → ℕ → Answered Turn
 ran d i =
-    leaving (gave (ran_one i (server_at d i).deadline (spends_last (server_at d i))))
+    leaving (gave (Ran i (server_at d i).deadline (spends_last (server_at d i))))
     (one_later (with_server d i (served (server_at d i))))
 
 -- 10: "a live tick when the clock stands at 2,419,200". Otherwise the server that step 2 picks runs; "If there is none, the tick is
@@ -75,17 +69,7 @@ unfoldable pub tick : Dispatcher → Answered Turn
 tick d =
     cond (eqb d.clock.tick clock_end) (refusing d 10)
     (cond (ltb (picked d) d.count) (ran d (picked d))
-    (leaving (gave idled) (one_later d)))
-
--- what each case of a tick's answer says
-abbrev pub turn_of : TickAnswer → Said Turn
-turn_of Idle = gave idled
-turn_of (Ran i deadline postponed) = gave (ran_one i deadline postponed)
-turn_of (Refused r) = refused (number_of r) (place_of r)
-
--- what the struct that a tick answers says
-abbrev pub tick_says : Ticked → Answered Turn
-tick_says r = leaving (turn_of r.answer) r.dispatcher
+    (leaving (gave Idle) (one_later d)))
 
 -- a refused move leaves the dispatcher as it was
 abbrev pub LeavesRefused : {A : Type 0} → Dispatcher → Answered A → Type 0

@@ -8,12 +8,13 @@ mod places;
 
 ghost use Rattle.std.specs.Prelude.{◌≡◌, ◌<◌};
 ghost use Rattle.sizes.specs.Sizes.{clock_end};
-ghost use Rattle.dispatcher.specs.Moves.{leaving, one_later, arrival_says, arrival, turn_of, tick_says, tick, ran};
+ghost use Rattle.dispatcher.specs.Moves.{leaving, one_later, reply_says, arrival, tick, ran};
 ghost use Rattle.dispatcher.specs.Pick.{Earliest};
 ghost use Rattle.dispatcher.specs.Within.{Within};
+ghost use Rattle.refusal.specs.Refusals.{gave};
 
 use clock::{Length, Moment};
-use refusal::{Refusal, Verdict};
+use refusal::Refusal;
 use server::Server;
 
 #[derive(Clone, Copy)]
@@ -26,14 +27,16 @@ pub struct Dispatcher {
     pub servers: [Server; sizes::MOST_SERVERS],
 }
 
+// What is answered, and the dispatcher with it: a move leaves one, refused ones too, and an opening hands one back.
 #[derive(Clone, Copy)]
-pub struct Arrived {
-    pub answer: Verdict,
+pub struct Reply<A> {
+    pub answer: Result<A, Refusal>,
     pub dispatcher: Dispatcher,
 }
 
+// What a tick went to.
 #[derive(Clone, Copy)]
-pub enum TickAnswer {
+pub enum Turn {
     Idle,
     // The server that ran, the deadline that it ran under, and whether that tick postponed it.
     Ran {
@@ -41,50 +44,43 @@ pub enum TickAnswer {
         deadline: Moment,
         postponed: bool,
     },
-    Refused(Refusal),
-}
-
-#[derive(Clone, Copy)]
-pub struct Ticked {
-    pub answer: TickAnswer,
-    pub dispatcher: Dispatcher,
 }
 
 // Work for one server at this moment of the clock: refused by 6 or 11, or else accepted.
-pub fn arrival(d: Dispatcher, server: usize, cost: Length) -> Arrived
+pub fn arrival(d: Dispatcher, server: usize, cost: Length) -> Reply<()>
     requires { Within d }
-    ensures result_value { arrival_says result ≡ arrival d server cost }
+    ensures result_value { reply_says result ≡ arrival d server cost }
     ensures within { Within result.dispatcher }
 {
     if arrival::is_faulty(d.count, server, cost) {
-        return Arrived {
-            answer: Verdict::Refused(Refusal::FaultyArrival(0)),
+        return Reply {
+            answer: Err(Refusal::FaultyArrival(0)),
             dispatcher: d,
         };
     }
     let s = places::server_at(d, server);
     if sizes::MOST_WAITING - s.waiting.ticks < cost.ticks {
-        return Arrived {
-            answer: Verdict::Refused(Refusal::WaitingWork),
+        return Reply {
+            answer: Err(Refusal::WaitingWork),
             dispatcher: d,
         };
     }
     let taken = places::with_server(d, server, steps::take(s, d.clock, cost));
-    Arrived {
-        answer: Verdict::Accepted,
+    Reply {
+        answer: Ok(()),
         dispatcher: taken,
     }
 }
 
 // One tick of the clock: refused by 10, or else idle, or given to the server with the earliest deadline.
-pub fn tick(d: Dispatcher) -> Ticked
+pub fn tick(d: Dispatcher) -> Reply<Turn>
     requires { Within d }
-    ensures result_value { tick_says result ≡ tick d }
+    ensures result_value { reply_says result ≡ tick d }
     ensures within { Within result.dispatcher }
 {
     if d.clock.tick == sizes::CLOCK_END {
-        return Ticked {
-            answer: TickAnswer::Refused(Refusal::ClockEnd),
+        return Reply {
+            answer: Err(Refusal::ClockEnd),
             dispatcher: d,
         };
     }
@@ -92,35 +88,35 @@ pub fn tick(d: Dispatcher) -> Ticked
     if i < d.count {
         return run(d, i);
     }
-    pass(d, TickAnswer::Idle)
+    pass(d, Turn::Idle)
 }
 
 // The tick as server i's.
-fn run(d: Dispatcher, i: usize) -> Ticked
+fn run(d: Dispatcher, i: usize) -> Reply<Turn>
     requires within { Within d × Earliest d d.count i }
     requires tick_lt_clock_end { d.clock.tick < clock_end }
-    ensures { tick_says result ≡ ran d i }
+    ensures { reply_says result ≡ ran d i }
 {
     let s = places::server_at(d, i);
     let deadline = s.deadline;
-    let answer = TickAnswer::Ran {
+    let turn = Turn::Ran {
         server: i,
         deadline,
         postponed: s.remaining.ticks == 1,
     };
     let served = places::with_server(d, i, steps::serve(s));
-    pass(served, answer)
+    pass(served, turn)
 }
 
 // Step 4 of a moment: its clock goes on, and the tick is answered.
-fn pass(mut d: Dispatcher, answer: TickAnswer) -> Ticked
+fn pass(mut d: Dispatcher, turn: Turn) -> Reply<Turn>
     requires { d.clock.tick < clock_end }
-    ensures { tick_says result ≡ leaving (turn_of answer) (one_later d) }
+    ensures { reply_says result ≡ leaving (gave turn) (one_later d) }
 {
     let later = clock::later(d.clock, Length { ticks: 1 });
     d.clock = later;
-    Ticked {
-        answer,
+    Reply {
+        answer: Ok(turn),
         dispatcher: d,
     }
 }

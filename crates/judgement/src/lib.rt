@@ -7,33 +7,30 @@ ghost use Rattle.workfile.specs.Work.{work_under};
 ghost use Rattle.judgement.specs.Judgement.{length_out_of_range, sizes_out_of_range, layout_broken, judged};
 ghost use Rattle.judgement.specs.Working.Arrivals.{list_judged};
 
-use refusal::{Refusal, Verdict};
+use refusal::Refusal;
 use workfile::Header;
 
 // The judgement of a file by 1 to 9, beside a finish list of so many places: its layout, then its table, then its arrivals.
-pub fn judge(file: &[u8], places: usize) -> Verdict
+pub fn judge(file: &[u8], places: usize) -> Result<(), Refusal>
     ensures { on_paper result ≡ judged file.now places }
 {
     let bytes = file.len();
     if is_length_out_of_range(bytes) {
-        return Verdict::Refused(Refusal::FileLength);
+        return Err(Refusal::FileLength);
     }
     let h = workfile::header_of(file);
     if is_size_out_of_range(h) {
-        return Verdict::Refused(Refusal::Sizes);
+        return Err(Refusal::Sizes);
     }
     if is_layout_broken(h, bytes) {
-        return Verdict::Refused(Refusal::Layout);
+        return Err(Refusal::Layout);
     }
-    let table = booking::admit(listing::sheet_of(file, h));
-    match table {
-        Verdict::Accepted => judge_arrivals(file, h, places),
-        Verdict::Refused(_) => table,
-    }
+    booking::admit(listing::sheet_of(file, h))?;
+    judge_arrivals(file, h, places)
 }
 
 // The arrivals in order, each by 6, 7, 8, then 9.
-fn judge_arrivals(file: &[u8], h: Header, places: usize) -> Verdict
+fn judge_arrivals(file: &[u8], h: Header, places: usize) -> Result<(), Refusal>
     ensures { on_paper result ≡ list_judged (work_under h file.now) places }
 {
     let arrivals = h.arrivals.count;
@@ -44,21 +41,21 @@ fn judge_arrivals(file: &[u8], h: Header, places: usize) -> Verdict
         let now = a.moment.tick;
         let faulty = arrival::is_faulty(h.servers.count, a.server, a.cost);
         if faulty {
-            return Verdict::Refused(Refusal::FaultyArrival(k));
+            return Err(Refusal::FaultyArrival(k));
         }
         if now < before {
-            return Verdict::Refused(Refusal::BackwardArrival(k));
+            return Err(Refusal::BackwardArrival(k));
         }
         if h.horizon.tick <= now {
-            return Verdict::Refused(Refusal::LateArrival(k));
+            return Err(Refusal::LateArrival(k));
         }
         before = now;
         k += 1;
     }
     if places < arrivals {
-        return Verdict::Refused(Refusal::FinishList);
+        return Err(Refusal::FinishList);
     }
-    Verdict::Accepted
+    Ok(())
 }
 
 // The test for 1.

@@ -12,15 +12,15 @@ use prog.Memory.{Memory}
 use prog.Routine.{Routine}
 use Rattle.clock.specs.declared.Length.{Length}
 use Rattle.dispatcher.specs.Within.{Within}
-use Rattle.dispatcher.specs.declared.Arrived.{Arrived}
+use Rattle.dispatcher.specs.declared.Reply.{Reply}
 use Rattle.dispatcher.specs.declared.Dispatcher.{Dispatcher}
-use Rattle.dispatcher.specs.declared.TickAnswer.{TickAnswer}
-use Rattle.dispatcher.specs.declared.Ticked.{Ticked}
+use Rattle.dispatcher.specs.declared.Turn.{Turn}
 use Rattle.dispatcher.specs.contracts.arrival as by-value-arrival
 use Rattle.dispatcher.specs.contracts.tick as by-value-tick
 use Rattle.dispatcher.proofs.arrival.Reads as by-value-arrival-read
 use Rattle.dispatcher.proofs.tick.Reads as by-value-tick-read
-use Rattle.refusal.specs.declared.Verdict.{Verdict}
+use Rattle.refusal.specs.declared.Refusal.{Refusal}
+use Rattle.std.specs.Prelude.{Result}
 use Rattle.walks.specs.AsksNothing.{AsksOnlyWalked}
 use Rattle.walks.specs.OneOutcome.{Gives, OneOutcomeLentWalked}
 use Rattle.walks.proofs.Steps.{both_said}
@@ -67,16 +67,16 @@ tick_asks M 𝓤 𝓛 mem run κs a within = (tt, (λ P. fact_i 𝓤 _ P within)
 -- what a move by value promises, and what the clauses of the lent one ensure: equal answers and equal dispatchers
 module _ {M : Type 1} {𝓤 : Ura M} (𝓛 : Logic 𝓤) (mem : Memory → SProp 𝓤) (run : Routine → Fun 𝓤)
     (κs : Lfts 1) (d : MutBor Dispatcher) where
-  pub arrival_forms : (server : ℕ) (cost : Length) (r : Arrived) (u : AtExit by-value-arrival.ended tt)
-      → by-value-arrival-read.Post tt (d.now, (server, (cost, tt))) r u → (answer : Verdict) (e : AtExit arrival.ended κs)
+  pub arrival_forms : (server : ℕ) (cost : Length) (r : Reply (Unit {0})) (u : AtExit by-value-arrival.ended tt)
+      → by-value-arrival-read.Post tt (d.now, (server, (cost, tt))) r u → (answer : Result (Unit {0}) Refusal) (e : AtExit arrival.ended κs)
       → ent 𝓤 ((arrival.clauses 𝓛 mem run κs (d, (server, (cost, tt)))).ensures tt answer e)
       (fact 𝓤 ((r.answer ≡ answer) × (r.dispatcher ≡ e.0.now)))
   arrival_forms server cost r u h answer e =
       fact_use 𝓤 _ (arrival_gives M 𝓤 𝓛 mem run κs (d, (server, (cost, tt))) tt answer e) (λ l.
       fact_i 𝓤 _ _ (arrival_agrees d.now server cost r.answer answer r.dispatcher e.0.now h l))
 
-  pub tick_forms : (r : Ticked) (u : AtExit by-value-tick.ended tt)
-      → by-value-tick-read.Post tt (d.now, tt) r u → (answer : TickAnswer) (e : AtExit tick.ended κs)
+  pub tick_forms : (r : Reply Turn) (u : AtExit by-value-tick.ended tt)
+      → by-value-tick-read.Post tt (d.now, tt) r u → (answer : Result Turn Refusal) (e : AtExit tick.ended κs)
       → ent 𝓤 ((tick.clauses 𝓛 mem run κs (d, tt)).ensures tt answer e)
       (fact 𝓤 ((r.answer ≡ answer) × (r.dispatcher ≡ e.0.now)))
   tick_forms r u h answer e =

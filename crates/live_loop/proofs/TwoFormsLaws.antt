@@ -3,34 +3,30 @@ use Prim.Native.Nat.{ℕ}
 use mathlib.Core.List.{List, [], ◌∷◌}
 use mathlib.Core.Path.{◌≡◌, refl, sym, ◌∙◌, ap, ap₂, subst}
 use Rattle.clock.specs.declared.Length.{Length}
-use Rattle.dispatcher.proofs.MoveOnPaperLaws.{moved_told, turn_told}
+use Rattle.dispatcher.proofs.MoveOnPaperLaws.{moved_told}
 use Rattle.dispatcher.specs.Course.{Move, an_arrival, a_tick, moved, after}
-use Rattle.dispatcher.specs.Moves.{Answered, leaving, Turn, turn_of}
+use Rattle.dispatcher.specs.Moves.{Answered, leaving}
 use Rattle.dispatcher.specs.Within.{Within}
 use Rattle.dispatcher.specs.declared.Dispatcher.{Dispatcher}
-use Rattle.dispatcher.specs.declared.TickAnswer.{TickAnswer}
+use Rattle.dispatcher.specs.declared.Turn.{Turn}
 use Rattle.promise.proofs.OneOutcomeLaws.{both_are}
-use Rattle.refusal.proofs.OnPaperLaws.{verdict_told}
-use Rattle.refusal.specs.Refusals.{Said, on_paper}
-use Rattle.refusal.specs.declared.Verdict.{Verdict}
+use Rattle.refusal.specs.Refusals.{on_paper}
+use Rattle.refusal.specs.declared.Refusal.{Refusal}
+use Rattle.std.specs.Prelude.{Result}
 use Rattle.live_loop.specs.TwoForms.{ArrivalGives, TickGives, AnswerTo, Answers, MoveGives, Played}
 
 -- One move.
 
--- Where what an answer says tells the answer: two moves that say and leave the same have equal answers and leave equal dispatchers.
-left_told : {A B : Type 0} (says : B → Said A) (told : (v w : B) → says v ≡ says w → v ≡ w) (v w : B) (d e : Dispatcher)
-    → leaving (says v) d ≡ leaving (says w) e → (v ≡ w) × (d ≡ e)
-left_told {B = B} says told v w d e p = (ap (λ (x : B × Dispatcher). x.0) same, ap (λ (x : B × Dispatcher). x.1) same)
-  where
-    same : ◌≡◌ {A = B × Dispatcher} (v, d) (w, e)
-    same = moved_told says told (λ x y. (x, y)) v w d e p
+-- Two moves that say and leave the same have equal answers and leave equal dispatchers.
+left_told : {A : Type 0} (v w : Result A Refusal) (d e : Dispatcher) → leaving (on_paper v) d ≡ leaving (on_paper w) e → (v ≡ w) × (d ≡ e)
+left_told {A} v w d e p = (moved_told (λ x y. x) v w d e p, moved_told (λ x y. y) v w d e p)
 
-pub arrival_agrees : (d : Dispatcher) (server : ℕ) (cost : Length) (v w : Verdict) (e f : Dispatcher)
+pub arrival_agrees : (d : Dispatcher) (server : ℕ) (cost : Length) (v w : Result (Unit {0}) Refusal) (e f : Dispatcher)
     → ArrivalGives d server cost v e → ArrivalGives d server cost w f → (v ≡ w) × (e ≡ f)
-arrival_agrees d server cost v w e f p q = left_told on_paper verdict_told v w e f (both_are p.0 q.0)
+arrival_agrees d server cost v w e f p q = left_told v w e f (both_are p.0 q.0)
 
-pub tick_agrees : (d : Dispatcher) (v w : TickAnswer) (e f : Dispatcher) → TickGives d v e → TickGives d w f → (v ≡ w) × (e ≡ f)
-tick_agrees d v w e f p q = left_told turn_of turn_told v w e f (both_are p.0 q.0)
+pub tick_agrees : (d : Dispatcher) (v w : Result Turn Refusal) (e f : Dispatcher) → TickGives d v e → TickGives d w f → (v ≡ w) × (e ≡ f)
+tick_agrees d v w e f p q = left_told v w e f (both_are p.0 q.0)
 
 -- A course of moves.
 

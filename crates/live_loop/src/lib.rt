@@ -4,16 +4,16 @@
 #![tactic(auto)]
 
 ghost use Rattle.std.specs.Prelude.{◌≡◌};
-ghost use Rattle.dispatcher.specs.Moves.{leaving, arrival, tick, turn_of};
+ghost use Rattle.dispatcher.specs.Moves.{leaving, arrival, tick};
 ghost use Rattle.dispatcher.specs.Within.{Within};
 ghost use Rattle.refusal.specs.Refusals.{on_paper};
 
 use clock::Length;
-use dispatcher::{Dispatcher, TickAnswer};
-use refusal::Verdict;
+use dispatcher::{Dispatcher, Turn};
+use refusal::Refusal;
 
 // Work for one server at this moment of the clock: refused by 6 or 11, or else accepted.
-pub fn arrival(d: &mut Dispatcher, server: usize, cost: Length) -> Verdict
+pub fn arrival(d: &mut Dispatcher, server: usize, cost: Length) -> Result<(), Refusal>
     requires { Within d.old }
     ensures d_after { leaving (on_paper result) d.new ≡ arrival d.old server cost }
     ensures within { Within d.new }
@@ -24,9 +24,9 @@ pub fn arrival(d: &mut Dispatcher, server: usize, cost: Length) -> Verdict
 }
 
 // One tick of the clock: refused by 10, or else idle, or given to the server with the earliest deadline.
-pub fn tick(d: &mut Dispatcher) -> TickAnswer
+pub fn tick(d: &mut Dispatcher) -> Result<Turn, Refusal>
     requires { Within d.old }
-    ensures d_after { leaving (turn_of result) d.new ≡ tick d.old }
+    ensures d_after { leaving (on_paper result) d.new ≡ tick d.old }
     ensures within { Within d.new }
 {
     let t = dispatcher::tick(*d);

@@ -13,7 +13,9 @@ use native.Mathlib.Omega.{arith}
 use Rattle.clock.specs.Clock.{moment, ticks}
 use Rattle.dispatcher.proofs.MoveLaws.{tick_ran, tick_idle}
 use Rattle.dispatcher.proofs.PickLaws.{earliest_picked, none_picked}
-use Rattle.dispatcher.specs.Moves.{Answered, leaving, standing, with_server, Turn, idled, ran_one, one_later, ran, tick}
+use Rattle.dispatcher.specs.Moves.{Answered, leaving, standing, with_server, one_later, ran, tick}
+use Rattle.dispatcher.specs.declared.Turn.{Turn}
+use Rattle.dispatcher.specs.declared.Turn.TheVariants.{Idle, Ran}
 use Rattle.dispatcher.specs.Pick.{server_at, picked, Earliest, NoneWorks}
 use Rattle.dispatcher.specs.Within.{Within}
 use Rattle.dispatcher.specs.declared.Dispatcher.{Dispatcher}
@@ -125,7 +127,7 @@ module _ (d : Dispatcher) (i : ℕ) (ok : Within d) (p : Earliest d d.count i) w
   pub tick_same : (k : ℕ) → k < (server_at d i).remaining.ticks → k < (server_at d i).waiting.ticks → d.clock.tick + k < clock_end
       → tick (ran_for d i k)
       ≡ record {
-        answer = gave (ran_one i (server_at d i).deadline (eqb ((server_at d i).remaining.ticks - suc k) 0));
+        answer = gave (Ran i (server_at d i).deadline (eqb ((server_at d i).remaining.ticks - suc k) 0));
         dispatcher = ran_for d i (suc k);
       }
   unfolding ran
@@ -137,11 +139,11 @@ module _ (d : Dispatcher) (i : ℕ) (ok : Within d) (p : Earliest d d.count i) w
       picks : picked (ran_for d i k) ≡ i
       picks = earliest_picked (ran_for d i k) i (still_earliest k c w)
 
-      answer : gave (ran_one i (server_at (ran_for d i k) i).deadline (spent (one_tick_less (server_at (ran_for d i k) i))))
-          ≡ gave (ran_one i (server_at d i).deadline (eqb ((server_at d i).remaining.ticks - suc k) 0))
+      answer : gave (Ran i (server_at (ran_for d i k) i).deadline (spent (one_tick_less (server_at (ran_for d i k) i))))
+          ≡ gave (Ran i (server_at d i).deadline (eqb ((server_at d i).remaining.ticks - suc k) 0))
       answer =
-          ap (λ (s : Server). gave (ran_one i s.deadline (spent (one_tick_less s)))) (own k c)
-          ∙ ap (λ (s : Server). gave (ran_one i s.deadline (spent s))) (one_less (server_at d i) k)
+          ap (λ (s : Server). gave (Ran i s.deadline (spent (one_tick_less s)))) (own k c)
+          ∙ ap (λ (s : Server). gave (Ran i s.deadline (spent s))) (one_less (server_at d i) k)
 
       moved : one_later (with_server (ran_for d i k) i (served (server_at (ran_for d i k) i))) ≡ ran_for d i (suc k)
       moved =
@@ -156,10 +158,10 @@ module _ (d : Dispatcher) (i : ℕ) (ok : Within d) (p : Earliest d d.count i) w
 
 -- A dispatcher of which nobody has work.
 pub tick_same_idle : (d : Dispatcher) (k : ℕ) → NoneWorks d d.count → d.clock.tick + k < clock_end
-    → tick (later_by d k) ≡ record { answer = gave idled; dispatcher = later_by d (suc k) }
+    → tick (later_by d k) ≡ record { answer = gave Idle; dispatcher = later_by d (suc k) }
 tick_same_idle d k none e =
     tick_idle (later_by d k) (λ q. omega arith) (omega (arith, none_picked (later_by d k) none))
-    ∙ ap (λ (t : ℕ). leaving (gave idled) (standing d (moment t) d.servers))
+    ∙ ap (λ (t : ℕ). leaving (gave Idle) (standing d (moment t) d.servers))
     clock_more
   where
     clock_more : d.clock.tick + k + 1 ≡ d.clock.tick + suc k
@@ -206,7 +208,7 @@ module _ (w : Work) (t i k : ℕ) (ok : Within (ready w t)) (clock : (ready w t)
     (p : Earliest (ready w t) (ready w t).count i) (quiet : Quiet w t (suc k)) (end : t + suc k ≤ clock_end)
     (budget : suc k ≤ (server_at (ready w t) i).remaining.ticks) (work : suc k ≤ (server_at (ready w t) i).waiting.ticks) where
   abbrev ran_answer : ℕ → Said Turn
-  ran_answer q = gave (ran_one i (server_at (ready w t) i).deadline (eqb ((server_at (ready w t) i).remaining.ticks - suc q) 0))
+  ran_answer q = gave (Ran i (server_at (ready w t) i).deadline (eqb ((server_at (ready w t) i).remaining.ticks - suc q) 0))
 
   pub at_ran : at_moment w (t + suc k) ≡ ran_for (ready w t) i (suc k)
   at_ran =
@@ -218,7 +220,7 @@ module _ (w : Work) (t i k : ℕ) (ok : Within (ready w t)) (clock : (ready w t)
 
   pub turn_ran : (q : ℕ) → q < suc k
       → turn w (t + q)
-      ≡ gave (ran_one i (server_at (ready w t) i).deadline (eqb ((server_at (ready w t) i).remaining.ticks - suc q) 0))
+      ≡ gave (Ran i (server_at (ready w t) i).deadline (eqb ((server_at (ready w t) i).remaining.ticks - suc q) 0))
   turn_ran =
       turn_on w t (ran_for (ready w t) i) ran_answer (suc k) quiet (sym (ran_none (ready w t) i ok p (omega arith)))
       (λ q. omega arith)
@@ -234,12 +236,12 @@ module _ (w : Work) (t k : ℕ) (clock : (ready w t).clock.tick ≡ t) (none : N
 
   pub at_idle : at_moment w (t + suc k) ≡ later_by (ready w t) (suc k)
   at_idle =
-      at_on w t (later_by (ready w t)) (λ q. gave idled) (suc k) quiet (sym later_none) (λ q. omega arith)
+      at_on w t (later_by (ready w t)) (λ q. gave Idle) (suc k) quiet (sym later_none) (λ q. omega arith)
       (λ q b. tick_same_idle (ready w t) q none (omega arith))
       k
       (omega arith)
 
-  pub turn_idle : (q : ℕ) → q < suc k → turn w (t + q) ≡ gave idled
+  pub turn_idle : (q : ℕ) → q < suc k → turn w (t + q) ≡ gave Idle
   turn_idle =
-      turn_on w t (later_by (ready w t)) (λ q. gave idled) (suc k) quiet (sym later_none) (λ q. omega arith)
+      turn_on w t (later_by (ready w t)) (λ q. gave Idle) (suc k) quiet (sym later_none) (λ q. omega arith)
       (λ q b. tick_same_idle (ready w t) q none (omega arith))

@@ -10,7 +10,7 @@ use native.Mathlib.Omega.{arith}
 use Rattle.clock.specs.declared.Moment.{Moment}
 use Rattle.counting.proofs.CountLaws.{count_empty, count_hit, count_le, count_none}
 use Rattle.counting.specs.Count.{count}
-use Rattle.dispatcher.specs.Moves.{idled, ran_one}
+use Rattle.dispatcher.specs.declared.Turn.TheVariants.{Idle, Ran}
 use Rattle.history.specs.Choice.{nobody, given}
 use Rattle.judgement.proofs.FitLaws.{Fit}
 use Rattle.refusal.specs.Refusals.{gave}
@@ -29,7 +29,7 @@ postponed_le w i t = count_le t (postpones w i)
 
 -- k + 1 ticks of server i with c of its budget left
 module _ (w : Work) (t i k c : ℕ) (d : Moment)
-    (turns : (q : ℕ) → q < suc k → turn w (t + q) ≡ gave (ran_one i d (eqb (c - suc q) 0))) where
+    (turns : (q : ℕ) → q < suc k → turn w (t + q) ≡ gave (Ran i d (eqb (c - suc q) 0))) where
   pub history_ran : (q : ℕ) → q < suc k → history w (t + q) ≡ given i d
   unfolding history
   history_ran q b = ap choice_of (turns q b)
@@ -60,7 +60,7 @@ module _ (w : Work) (t i k c : ℕ) (d : Moment)
         ∙ ap (λ (n : ℕ). n + 1) (count_none t k (postpones w i) (λ q b. early i q (omega arith) (omega arith)))
 
 -- idle ticks
-module _ (w : Work) (t k : ℕ) (turns : (q : ℕ) → q < k → turn w (t + q) ≡ gave idled) where
+module _ (w : Work) (t k : ℕ) (turns : (q : ℕ) → q < k → turn w (t + q) ≡ gave Idle) where
   pub history_idle : (q : ℕ) → q < k → history w (t + q) ≡ nobody
   unfolding history
   history_idle q b = ap choice_of (turns q b)

@@ -14,7 +14,9 @@ use Rattle.clock.specs.declared.Moment.{Moment}
 use Rattle.counting.proofs.CountLaws.{count_same}
 use Rattle.counting.specs.Count.{count}
 use Rattle.dispatcher.proofs.MoveLaws.{tick_ended, tick_ran, tick_idle}
-use Rattle.dispatcher.specs.Moves.{Turn, idled, ran_one, ran, tick}
+use Rattle.dispatcher.specs.Moves.{ran, tick}
+use Rattle.dispatcher.specs.declared.Turn.{Turn}
+use Rattle.dispatcher.specs.declared.Turn.TheVariants.{Idle, Ran}
 use Rattle.dispatcher.specs.Pick.{server_at, picked}
 use Rattle.dispatcher.specs.Within.{Within}
 use Rattle.dispatcher.specs.declared.Dispatcher.{Dispatcher}
@@ -32,8 +34,8 @@ use Rattle.moments.specs.Moments.{at_moment, ready, turn, postpones, postponed_b
 -- whether an answer tells of server i that it was postponed
 abbrev pub tells : ℕ → Said Turn → Bool
 tells i (refused number place) = false
-tells i (gave idled) = false
-tells i (gave (ran_one j deadline postponed)) = eqb i j && postponed
+tells i (gave Idle) = false
+tells i (gave (Ran j deadline postponed)) = eqb i j && postponed
 
 -- One tick.
 module _ {d : Dispatcher} (ok : Within d) (i : ℕ) where
@@ -79,18 +81,18 @@ module _ {w : Work} {places : ℕ} (fit : Fit w places) where
   unfolding postponed_by
   postponed_told i t = count_same t (postpones w i) (λ u. tells i (turn w u)) (λ u b. postpones_told i u)
 
-  module _ (u : ℕ) {i : ℕ} {deadline : Moment} {flag : Bool} (e : turn w u ≡ gave (ran_one i deadline flag)) where
+  module _ (u : ℕ) {i : ℕ} {deadline : Moment} {flag : Bool} (e : turn w u ≡ gave (Ran i deadline flag)) where
     pub own_told : postpones w i u ≡ flag
     own_told = postpones_told i u ∙ ap (tells i) e ∙ rw (eq-eqb i i refl)
 
     pub other_not : (j : ℕ) → (j ≡ i → ⊥) → postpones w j u ≡ false
     other_not j n = postpones_told j u ∙ ap (tells j) e ∙ rw (ne_eqb j i n)
 
-  pub idle_not : (u : ℕ) → turn w u ≡ gave idled → (j : ℕ) → postpones w j u ≡ false
+  pub idle_not : (u : ℕ) → turn w u ≡ gave Idle → (j : ℕ) → postpones w j u ≡ false
   idle_not u e j = postpones_told j u ∙ ap (tells j) e
 
 -- So of an accepted file: what a tick answers is whether the server that ran was postponed, and no other was.
 pub answer_tells : (file : List ℕ) (places : ℕ) → judged file places ≡ accepted → (u i : ℕ) (deadline : Moment) (flag : Bool)
-    → turn (work file) u ≡ gave (ran_one i deadline flag)
+    → turn (work file) u ≡ gave (Ran i deadline flag)
     → (postpones (work file) i u ≡ flag) × ((j : ℕ) → (j ≡ i → ⊥) → postpones (work file) j u ≡ false)
 answer_tells file places e u i deadline flag is = let fit = judged_fit file places e in (own_told fit u is, other_not fit u is)

@@ -2,7 +2,9 @@
 -- then the tick is given. Both are the live dispatcher's own moves.
 use Rattle.std.specs.Prelude.{ℕ, zero, suc, eqb, ltb, Bool, cond}
 use Rattle.counting.specs.Count.{count}
-use Rattle.dispatcher.specs.Moves.{arrival, tick, Turn, idled, ran_one}
+use Rattle.dispatcher.specs.Moves.{arrival, tick}
+use Rattle.dispatcher.specs.declared.Turn.{Turn}
+use Rattle.dispatcher.specs.declared.Turn.TheVariants.{Idle, Ran}
 use Rattle.dispatcher.specs.Pick.{server_at}
 use Rattle.dispatcher.specs.Start.{at_start}
 use Rattle.dispatcher.specs.declared.Dispatcher.{Dispatcher}
@@ -40,8 +42,8 @@ turn w t = (tick (ready w t)).answer
 -- what a tick that answers so is given to; the deadline is "the one in force before step 3"
 abbrev pub choice_of : Said Turn → Choice
 choice_of (refused number place) = nobody
-choice_of (gave idled) = nobody
-choice_of (gave (ran_one i deadline postponed)) = given i deadline
+choice_of (gave Idle) = nobody
+choice_of (gave (Ran i deadline postponed)) = given i deadline
 
 -- what the tick of each moment is given to
 unfoldable pub history : Work → History

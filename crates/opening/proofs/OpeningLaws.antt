@@ -15,15 +15,15 @@ use Rattle.clock.specs.Clock.{ticks}
 use Rattle.clock.specs.declared.Length.{Length}
 use Rattle.counting.proofs.TestLaws.{none_of_four}
 use Rattle.dispatcher.proofs.StartLaws.{admitted_within, start_within}
-use Rattle.dispatcher.specs.Moves.{Answered}
+use Rattle.dispatcher.specs.Moves.{Answered, reply_says}
 use Rattle.dispatcher.specs.Start.{at_start}
 use Rattle.dispatcher.specs.Within.{Within}
 use Rattle.refusal.proofs.AcceptedLaws.{accepted_test}
 use Rattle.refusal.specs.Refusals.{Said, refused, gave, accepted, on_paper}
-use Rattle.refusal.specs.declared.Verdict.TheVariants.{Accepted}
+use Rattle.std.specs.Prelude.{Ok}
 use Rattle.sizes.specs.Sizes.{most_frame, most_servers}
-use Rattle.opening.specs.Opening.{listed, out_of_range, table_judged, no_servers, opening, opening_says}
-use Rattle.opening.specs.declared.Opened.{Opened}
+use Rattle.opening.specs.Opening.{listed, out_of_range, table_judged, no_servers, opening}
+use Rattle.dispatcher.specs.declared.Reply.{Reply}
 
 pub judged_out_of_range : (l : List ℕ) (H : Length) → out_of_range (length l) H ≡ true → table_judged l H ≡ refused 2 0
 unfolding table_judged
@@ -78,8 +78,8 @@ pub opening_refused : (l : List ℕ) (H : Length) (number place : ℕ) → table
 unfolding opening
 opening_refused l H number place e = rw e
 
--- a call that answers `Accepted` has judged so
-pub opened_judged : (l : List ℕ) (H : Length) (r : Opened) → opening_says r ≡ opening l H → r.answer ≡ Accepted
+-- a call that answers `Ok` has judged so
+pub opened_judged : (l : List ℕ) (H : Length) (r : Reply (Unit {0})) → reply_says r ≡ opening l H → r.answer ≡ Ok tt
     → table_judged l H ≡ accepted
 unfolding opening
 opened_judged l H r said answer = sym (ap (λ (m : Answered (Unit {0})). m.answer) said) ∙ ap on_paper answer

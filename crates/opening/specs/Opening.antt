@@ -8,9 +8,8 @@ use Rattle.clock.specs.declared.Length.{Length}
 use Rattle.dispatcher.specs.Moves.{Answered, leaving}
 use Rattle.dispatcher.specs.Start.{at_start}
 use Rattle.dispatcher.specs.declared.Dispatcher.{Dispatcher}
-use Rattle.refusal.specs.Refusals.{Said, refused, gave, on_paper}
+use Rattle.refusal.specs.Refusals.{Said, refused, gave}
 use Rattle.sizes.specs.Sizes.{most_frame, most_servers}
-use Rattle.opening.specs.declared.Opened.{Opened}
 
 -- the table of a list of pairs: Q and T of server k are the numbers 2 × k and 2 × k + 1
 abbrev pub listed : List ℕ → Table
@@ -37,7 +36,3 @@ handed_back (gave u) d = d
 -- opening: the judgement, and the dispatcher of the table at its start where it is accepted
 unfoldable pub opening : List ℕ → Length → Answered (Unit {0})
 opening l H = leaving (table_judged l H) (handed_back (table_judged l H) (at_start H (listed l)))
-
--- what the struct that opening answers says
-abbrev pub opening_says : Opened → Answered (Unit {0})
-opening_says r = leaving (on_paper r.answer) r.dispatcher

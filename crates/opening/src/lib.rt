@@ -3,42 +3,37 @@
 
 ghost use Rattle.std.specs.Prelude.{false, ◌≡◌, ◌+◌, ◌*◌, ◌/◌, ◌≤◌, ◌<◌, length};
 ghost use Rattle.booking.specs.Sheet.{sheet_of};
+ghost use Rattle.dispatcher.specs.Moves.{reply_says};
 ghost use Rattle.dispatcher.specs.Start.{at_start};
 ghost use Rattle.dispatcher.specs.Within.{Within};
 ghost use Rattle.refusal.specs.Refusals.{on_paper};
 ghost use Rattle.sizes.specs.Sizes.{most_servers};
-ghost use Rattle.opening.specs.Opening.{listed, out_of_range, table_judged, opening, opening_says, no_servers};
+ghost use Rattle.opening.specs.Opening.{listed, out_of_range, table_judged, opening, no_servers};
 
 use booking::{Booking, Sheet};
 use clock::{Length, Moment};
-use dispatcher::Dispatcher;
-use refusal::{Refusal, Verdict};
-
-#[derive(Clone, Copy)]
-pub struct Opened {
-    pub answer: Verdict,
-    pub dispatcher: Dispatcher,
-}
+use dispatcher::{Dispatcher, Reply};
+use refusal::Refusal;
 
 // The dispatcher of a table, at its start, or a refusal and a dispatcher with no servers.
-pub fn open_table(table: &[u64], frame: Length) -> Opened
-    ensures result_value { opening_says result ≡ opening table.now frame }
+pub fn open_table(table: &[u64], frame: Length) -> Reply<()>
+    ensures result_value { reply_says result ≡ opening table.now frame }
     ensures within { Within result.dispatcher }
 {
     let answer = judge(table, frame);
     let dispatcher = match answer {
-        Verdict::Accepted => start(table, frame),
-        Verdict::Refused(_) => no_servers(),
+        Ok(()) => start(table, frame),
+        Err(_) => no_servers(),
     };
-    Opened { answer, dispatcher }
+    Reply { answer, dispatcher }
 }
 
 // 2, then 4 at the first faulty server, then 5.
-fn judge(table: &[u64], frame: Length) -> Verdict
+fn judge(table: &[u64], frame: Length) -> Result<(), Refusal>
     ensures { on_paper result ≡ table_judged table.now frame }
 {
     if is_out_of_range(table.len(), frame) {
-        return Verdict::Refused(Refusal::Sizes);
+        return Err(Refusal::Sizes);
     }
     booking::admit(sheet_of(table, frame))
 }

@@ -5,8 +5,7 @@ use mathlib.Core.Bool.{cond}
 use mathlib.Core.Path.{◌≡◌, refl, sym, ap, subst, ◌∙◌}
 use Rattle.refusal.specs.declared.Refusal.{Refusal}
 use Rattle.refusal.specs.declared.Refusal.TheVariants.{FileLength, Sizes, Layout, FaultyServer, Shares, FaultyArrival, BackwardArrival, LateArrival, FinishList, ClockEnd, WaitingWork}
-use Rattle.refusal.specs.declared.Verdict.{Verdict}
-use Rattle.refusal.specs.declared.Verdict.TheVariants.{Accepted, Refused}
+use Rattle.std.specs.Prelude.{Result, Ok, Err}
 use Rattle.refusal.specs.Refusals.{number_of, place_of, Said, refused, gave, on_paper}
 
 -- the refusal of a number at a place
@@ -38,18 +37,18 @@ refusal_back FinishList = refl
 refusal_back ClockEnd = refl
 refusal_back WaitingWork = refl
 
-verdict_of : Said (Unit {0}) → Verdict
-verdict_of (refused n k) = Refused (refusal_of n k)
-verdict_of (gave u) = Accepted
+answer_of : {A : Type 0} → Said A → Result A Refusal
+answer_of (refused n k) = Err (refusal_of n k)
+answer_of (gave a) = Ok a
 
-verdict_back : (v : Verdict) → verdict_of (on_paper v) ≡ v
-unfolding verdict_of
-verdict_back Accepted = refl
-verdict_back (Refused r) = ap Refused (refusal_back r)
+answer_back : {A : Type 0} (v : Result A Refusal) → answer_of (on_paper v) ≡ v
+unfolding answer_of
+answer_back (Ok a) = refl
+answer_back (Err r) = ap Err (refusal_back r)
 
--- what it says on paper tells a verdict
-pub verdict_told : (v w : Verdict) → on_paper v ≡ on_paper w → v ≡ w
-verdict_told v w p = sym (verdict_back v) ∙ ap verdict_of p ∙ verdict_back w
+-- what it says on paper tells an answer
+pub answer_told : {A : Type 0} (v w : Result A Refusal) → on_paper v ≡ on_paper w → v ≡ w
+answer_told v w p = sym (answer_back v) ∙ ap answer_of p ∙ answer_back w
 
 -- what is refused was not given
 abbrev IsRefused : {A : Type 0} → Said A → Type 0

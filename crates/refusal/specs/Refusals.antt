@@ -1,9 +1,7 @@
 -- Section "Refusal numbers" of document 01: the number and the place of each refusal, and what an answer says on paper.
-use Rattle.std.specs.Prelude.{ℕ}
+use Rattle.std.specs.Prelude.{ℕ, Result, Ok, Err}
 use Rattle.refusal.specs.declared.Refusal.{Refusal}
 use Rattle.refusal.specs.declared.Refusal.TheVariants.{FileLength, Sizes, Layout, FaultyServer, Shares, FaultyArrival, BackwardArrival, LateArrival, FinishList, ClockEnd, WaitingWork}
-use Rattle.refusal.specs.declared.Verdict.{Verdict}
-use Rattle.refusal.specs.declared.Verdict.TheVariants.{Accepted, Refused}
 
 -- the table, row by row: "No." and "Place"
 abbrev pub row_of : Refusal → ℕ × ℕ
@@ -30,14 +28,14 @@ pub data Said (A : Type 0) : Type 0 where
   refused : (number place : ℕ) → Said A
   gave : A → Said A
 
--- a verdict gives nothing beside that it accepts
+-- a judgement gives nothing beside that it accepts
 abbrev pub accepted : Said (Unit {0})
 accepted = gave tt
 
--- what each case of a verdict says
-abbrev pub on_paper : Verdict → Said (Unit {0})
-on_paper Accepted = accepted
-on_paper (Refused r) = refused (number_of r) (place_of r)
+-- what each case of an answer says
+abbrev pub on_paper : {A : Type 0} → Result A Refusal → Said A
+on_paper (Ok a) = gave a
+on_paper (Err r) = refused (number_of r) (place_of r)
 
 -- one judgement and then, where it accepts, another
 abbrev pub and_then : Said (Unit {0}) → Said (Unit {0}) → Said (Unit {0})

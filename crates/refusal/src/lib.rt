@@ -1,4 +1,4 @@
-// The refusals of the rules by number and place, and the answer that is either "accepted" or one of them.
+// The refusals of the rules by number and place. An answer that may be one of them is a `Result`.
 #![tactic(auto)]
 
 ghost use Rattle.std.specs.Prelude.{◌≡◌};
@@ -29,12 +29,6 @@ pub enum Refusal {
     ClockEnd,
     // The server's waiting work would grow too large.
     WaitingWork,
-}
-
-#[derive(Clone, Copy)]
-pub enum Verdict {
-    Accepted,
-    Refused(Refusal),
 }
 
 // The refusal's number in the document's table.

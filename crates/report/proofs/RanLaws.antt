@@ -7,7 +7,7 @@ use Rattle.books.proofs.Accepted.{judged_accepted}
 use Rattle.judgement.specs.Judgement.{judged}
 use Rattle.refusal.specs.Refusals.{Said, accepted, number_of, on_paper, place_of}
 use Rattle.refusal.specs.declared.Refusal.{Refusal}
-use Rattle.refusal.specs.declared.Verdict.TheVariants.{Accepted, Refused}
+use Rattle.std.specs.Prelude.{Ok, Err}
 use Rattle.run.proofs.OutcomeLaws.{outcome_verdict, ran_accepting}
 use Rattle.run.specs.Outcome.{Outcome, accepted_run, run_says, outcome}
 use Rattle.run.specs.declared.Ran.{Ran}
@@ -33,11 +33,11 @@ module _ {file after ended : List ℕ} {r : Ran} (left : Left file after ended r
       ∙ sym (outcome_verdict file left.list left.ends)
       ∙ sym (ap (λ (o : Outcome). o.verdict) left.ran_is)
 
-  pub report_refused : (why : Refusal) → r.verdict ≡ Refused why → day_report file ≡ refused_line (number_of why) (place_of why)
+  pub report_refused : (why : Refusal) → r.verdict ≡ Err why → day_report file ≡ refused_line (number_of why) (place_of why)
   unfolding day_report
   report_refused why v = ap (λ (s : Said (Unit {0})). report_of s (work file)) (verdict_is ∙ ap on_paper v)
 
-  module _ (v : r.verdict ≡ Accepted) where
+  module _ (v : r.verdict ≡ Ok tt) where
     fine : judged file most_arrivals ≡ accepted
     fine = verdict_is ∙ ap on_paper v
 

@@ -15,7 +15,6 @@ ghost use Rattle.trace.specs.Written.{segment_in};
 ghost use Rattle.workfile.specs.Work.{work};
 
 use clock::Length;
-use refusal::Verdict;
 use summary::Summary;
 
 // No report is longer (`report_fits` of proofs/LengthLaws.antt).
@@ -31,8 +30,8 @@ pub fn day_report(file: &[u8], text: &mut [u8]) -> usize
     let verdict = ran.verdict;
     let summaries = ran.summaries;
     match verdict {
-        Verdict::Accepted => accepted(file, &list, &finishes, ran.segments, summaries, text),
-        Verdict::Refused(why) => lines::refused(text, 0, why),
+        Ok(()) => accepted(file, &list, &finishes, ran.segments, summaries, text),
+        Err(why) => lines::refused(text, 0, why),
     }
 }
 

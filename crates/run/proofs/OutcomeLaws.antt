@@ -5,7 +5,7 @@ use mathlib.Core.List.{List}
 use mathlib.Core.Path.{◌≡◌, refl, sym, ◌∙◌, ap, ap₂}
 use Rattle.judgement.specs.Judgement.{judged}
 use Rattle.refusal.specs.Refusals.{Said, refused, gave, accepted, on_paper}
-use Rattle.refusal.specs.declared.Verdict.TheVariants.{Accepted}
+use Rattle.std.specs.Prelude.{Ok}
 use Rattle.summary.specs.declared.Summary.{Summary}
 use Rattle.workfile.specs.Work.{work}
 use Rattle.run.specs.declared.Ran.{Ran}
@@ -36,8 +36,8 @@ module _ (file list ends : List ℕ) where
       go (refused number place) = refl
       go (gave u) = refl
 
-  -- Of a call that answers `Accepted`, with the lists after it.
-  module _ (after ended : List ℕ) (r : Ran) (said : run_says r after ended ≡ outcome file list ends) (answer : r.verdict ≡ Accepted) where
+  -- Of a call that answers `Ok`, with the lists after it.
+  module _ (after ended : List ℕ) (r : Ran) (said : run_says r after ended ≡ outcome file list ends) (answer : r.verdict ≡ Ok tt) where
     pub ran_judged : judged file (length ends) ≡ accepted
     ran_judged = sym (ap (λ (o : Outcome). o.verdict) said ∙ outcome_verdict) ∙ ap on_paper answer
 

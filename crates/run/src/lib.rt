@@ -21,12 +21,12 @@ ghost use Rattle.refusal.specs.Refusals.{accepted};
 ghost use Rattle.workfile.specs.Work.{work};
 ghost use Rattle.run.specs.Outcome.{accepted_run, outcome, run_says};
 
-use refusal::Verdict;
+use refusal::Refusal;
 use summary::Summary;
 
 #[derive(Clone, Copy)]
 pub struct Ran {
-    pub verdict: Verdict,
+    pub verdict: Result<(), Refusal>,
     // How many segments the whole trace has.
     pub segments: usize,
     pub summaries: [Summary; sizes::MOST_SERVERS],
@@ -38,7 +38,7 @@ pub fn run(file: &[u8], list: &mut [u64], finishes: &mut [u32]) -> Ran
     ensures { run_says result list.new finishes.new ≡ outcome file.now list.old finishes.old }
 {
     let verdict = judgement::judge(file, finishes.len());
-    let Verdict::Accepted = verdict else {
+    let Ok(()) = verdict else {
         return Ran {
             verdict,
             segments: 0,
@@ -57,7 +57,7 @@ fn play(file: &[u8], list: &mut [u64], finishes: &mut [u32]) -> Ran
     let postponed = went.postponed;
     let interrupted = went.interrupted;
     Ran {
-        verdict: Verdict::Accepted,
+        verdict: Ok(()),
         segments: went.segments,
         summaries: records::of_run(file, finishes, &postponed, &interrupted),
     }

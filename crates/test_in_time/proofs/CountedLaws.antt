@@ -7,12 +7,13 @@ use Rattle.callers.proofs.LiveLaws.{counting_none, counting_arrived, counting_ti
 use Rattle.callers.specs.Live.{LedCounting}
 use Rattle.clock.specs.declared.Length.{Length}
 use Rattle.demand_3.specs.Got.{is_under}
-use Rattle.dispatcher.specs.Moves.{turn_of}
 use Rattle.dispatcher.specs.declared.Dispatcher.{Dispatcher}
-use Rattle.dispatcher.specs.declared.TickAnswer.{TickAnswer}
+use Rattle.dispatcher.specs.declared.Turn.{Turn}
 use Rattle.live_loop.specs.TwoForms.{ArrivalGives, TickGives}
 use Rattle.moments.specs.Moments.{choice_of}
-use Rattle.refusal.specs.declared.Verdict.{Verdict}
+use Rattle.refusal.specs.Refusals.{on_paper}
+use Rattle.refusal.specs.declared.Refusal.{Refusal}
+use Rattle.std.specs.Prelude.{Result}
 use Rattle.test_in_time.specs.declared.bandwidth.Window.{Window}
 use Rattle.test_in_time.specs.declared.lent.Counted.{Counted}
 use Rattle.test_in_time.specs.Working.Counted.{Counts}
@@ -22,8 +23,8 @@ abbrev pub having : ℕ → Dispatcher → Counted
 having n d = record { got = n; dispatcher = d }
 
 -- what one tick more counts
-abbrev pub more : Window → TickAnswer → ℕ
-more w answer = cond (is_under w.server w.to (choice_of (turn_of answer))) 1 0
+abbrev pub more : Window → Result Turn Refusal → ℕ
+more w answer = cond (is_under w.server w.to (choice_of (on_paper answer))) 1 0
 
 one_at_most : (b : Bool) → cond b 1 0 ≤ 1
 one_at_most true = omega arith
@@ -31,7 +32,7 @@ one_at_most false = omega arith
 
 module _ (w : Window) (start : Dispatcher) where
   -- after an arrival, and no tick yet
-  pub counts_arrived : (server : ℕ) (cost : Length) (answer : Verdict) (e : Dispatcher) → ArrivalGives start server cost answer e
+  pub counts_arrived : (server : ℕ) (cost : Length) (answer : Result (Unit {0}) Refusal) (e : Dispatcher) → ArrivalGives start server cost answer e
       → Counts w start 0 (having 0 e)
   counts_arrived server cost answer e gives =
       record {
@@ -42,13 +43,13 @@ module _ (w : Window) (start : Dispatcher) where
       }
 
   -- after one tick more
-  pub counts_ticked : {k : ℕ} {c : Counted} → Counts w start k c → (answer : TickAnswer) (e : Dispatcher) → TickGives c.dispatcher answer e
+  pub counts_ticked : {k : ℕ} {c : Counted} → Counts w start k c → (answer : Result Turn Refusal) (e : Dispatcher) → TickGives c.dispatcher answer e
       → (n : ℕ) → n ≡ c.got + more w answer → Counts w start (k + 1) (having n e)
   counts_ticked {c = c} ok answer e gives n is =
       record {
         led =
             subst⁻¹ (LedCounting w.server w.to start e) is
             (counting_ticked ok.led (record { answer = answer; dispatcher = e }) gives.0);
-        few = omega (arith, is, ok.few, one_at_most (is_under w.server w.to (choice_of (turn_of answer))));
+        few = omega (arith, is, ok.few, one_at_most (is_under w.server w.to (choice_of (on_paper answer))));
         within = gives.1;
       }

@@ -20,7 +20,7 @@ use Rattle.counting.proofs.TestLaws.{and_left, and_right}
 use Rattle.counting.specs.Sum.{sum}
 use Rattle.finish.specs.Finish.{finish_list}
 use Rattle.judgement.proofs.FitLaws.{judged_fit}
-use Rattle.refusal.specs.declared.Verdict.TheVariants.{Accepted}
+use Rattle.std.specs.Prelude.{Ok}
 use Rattle.run.proofs.OutcomeLaws.{ran_judged, ran_accepting}
 use Rattle.run.specs.Outcome.{Outcome, outcome, run_says}
 use Rattle.run.specs.declared.Ran.{Ran}
@@ -40,9 +40,9 @@ module _ (f : ℕ → ℕ) {k added more : ℕ} (so_far : added ≡ sum k f) (on
   pub sum_next_small : (n : ℕ) → k < n → added + more ≤ sum n f
   sum_next_small n h = rw sum_next (sum_first n (k + 1) f (omega (arith, h)))
 
--- A call of `run`, by its contract, that answers `Accepted`.
+-- A call of `run`, by its contract, that answers `Ok`.
 module _ (file list ends after ended : List ℕ) (r : Ran) (said : run_says r after ended ≡ outcome file list ends)
-    (answer : r.verdict ≡ Accepted) where
+    (answer : r.verdict ≡ Ok tt) where
   ended_length : length ended ≡ length ends
   unfolding finish_list
   ended_length = ap (λ (o : Outcome). length o.finishes_left) (ran_accepting file list ends after ended r said answer) ∙ length_places _ _

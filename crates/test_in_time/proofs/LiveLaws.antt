@@ -12,21 +12,20 @@ use Rattle.clock.specs.declared.Length.{Length}
 use Rattle.clock.specs.declared.Moment.{Moment}
 use Rattle.demand_3.proofs.StandingLaws.{Standing, arrival_standing, tick_standing}
 use Rattle.demand_3.specs.Got.{WithinBandwidth}
-use Rattle.dispatcher.specs.Moves.{Answered, Turn, arrival, arrival_says, tick, tick_says}
+use Rattle.dispatcher.specs.Moves.{Answered, arrival, reply_says, tick}
+use Rattle.dispatcher.specs.declared.Turn.{Turn}
 use Rattle.dispatcher.specs.Pick.{server_at}
-use Rattle.dispatcher.specs.declared.Arrived.{Arrived}
+use Rattle.dispatcher.specs.declared.Reply.{Reply}
 use Rattle.dispatcher.specs.declared.Dispatcher.{Dispatcher}
-use Rattle.dispatcher.specs.declared.Ticked.{Ticked}
-use Rattle.opening.specs.Opening.{listed, opening, opening_says}
-use Rattle.opening.specs.declared.Opened.{Opened}
-use Rattle.refusal.specs.declared.Verdict.TheVariants.{Accepted}
+use Rattle.opening.specs.Opening.{listed, opening, reply_says}
+use Rattle.std.specs.Prelude.{Ok}
 use Rattle.server.proofs.MoveLaws.{booking_of}
 use Rattle.sizes.specs.Sizes.{clock_end}
 use Rattle.test_in_time.specs.Working.Bandwidth.{Allowed}
 use Rattle.test_in_time.specs.Working.Counted.{Got}
 use Rattle.test_in_time.specs.Working.Live.{Live}
 
-pub live_opened : (l : List ℕ) (H : Length) (r : Opened) → opening_says r ≡ opening l H → r.answer ≡ Accepted → Live r.dispatcher
+pub live_opened : (l : List ℕ) (H : Length) (r : Reply (Unit {0})) → reply_says r ≡ opening l H → r.answer ≡ Ok tt → Live r.dispatcher
 live_opened l H r e answer =
     record {
       start = r.dispatcher;
@@ -37,7 +36,7 @@ live_opened l H r e answer =
     }
 
 module _ {d : Dispatcher} (live : Live d) where
-  pub live_arrived : (r : Arrived) (i : ℕ) (cost : Length) → arrival_says r ≡ arrival d i cost → Live r.dispatcher
+  pub live_arrived : (r : Reply (Unit {0})) (i : ℕ) (cost : Length) → reply_says r ≡ arrival d i cost → Live r.dispatcher
   live_arrived r i cost e =
       record {
         start = live.start;
@@ -47,7 +46,7 @@ module _ {d : Dispatcher} (live : Live d) where
         standing = subst⁻¹ (λ (m : Answered (Unit {0})). Standing live.table m.dispatcher) e (arrival_standing live.standing i cost);
       }
 
-  pub live_ticked : (r : Ticked) → tick_says r ≡ tick d → Live r.dispatcher
+  pub live_ticked : (r : Reply Turn) → reply_says r ≡ tick d → Live r.dispatcher
   live_ticked r e =
       record {
         start = live.start;

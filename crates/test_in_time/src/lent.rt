@@ -2,9 +2,9 @@
 ghost use Rattle.std.specs.Prelude.{◌+◌, ◌≤◌, ◌<◌, cond, ◌≡◌};
 ghost use Rattle.clock.specs.Clock.{last_tick};
 ghost use Rattle.demand_3.specs.Got.{is_under};
-ghost use Rattle.dispatcher.specs.Moves.{turn_of};
 ghost use Rattle.dispatcher.specs.Within.{Within};
 ghost use Rattle.moments.specs.Moments.{choice_of};
+ghost use Rattle.refusal.specs.Refusals.{on_paper};
 ghost use Rattle.server.proofs.MoveLaws.{booking_of};
 ghost use Rattle.sizes.specs.Sizes.{clock_end};
 ghost use Rattle.test_in_time.specs.Working.Counted.{Counts, Got};
@@ -14,7 +14,8 @@ use crate::bandwidth;
 use crate::bandwidth::Window;
 use booking::Booking;
 use clock::{Length, Moment};
-use dispatcher::{Dispatcher, TickAnswer};
+use dispatcher::{Dispatcher, Turn};
+use refusal::Refusal;
 use server::Server;
 
 // A count of ticks, and the dispatcher after them.
@@ -89,22 +90,22 @@ fn round(start: Dispatcher, w: Window, server: usize, cost: Length, times: u64) 
 }
 
 // A count with one tick more, where the window counts that.
-fn with(got: u64, w: Window, answer: TickAnswer) -> u64
+fn with(got: u64, w: Window, answer: Result<Turn, Refusal>) -> u64
     requires { got < last_tick }
-    ensures { result ≡ got + cond (is_under w.server w.to (choice_of (turn_of answer))) 1 0 }
+    ensures { result ≡ got + cond (is_under w.server w.to (choice_of (on_paper answer))) 1 0 }
 {
     match answer {
-        TickAnswer::Idle => got,
-        TickAnswer::Ran {
+        Ok(Turn::Idle) => got,
+        Ok(Turn::Ran {
             server,
             deadline,
             postponed: _,
-        } => {
+        }) => {
             if bandwidth::counts(w, server, deadline) {
                 return got + 1;
             }
             got
         }
-        TickAnswer::Refused(_) => got,
+        Err(_) => got,
     }
 }

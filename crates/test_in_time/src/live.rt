@@ -4,8 +4,7 @@ ghost use Rattle.test_in_time.specs.Working.Live.{Live};
 
 use crate::{lent, say};
 use clock::{Length, Moment};
-use dispatcher::{Dispatcher, TickAnswer};
-use refusal::Verdict;
+use dispatcher::{Dispatcher, Turn};
 
 // File P's table: H 10, servers (2, 5) and (3, 5).
 pub(crate) fn file_p(rt: &impl Print) {
@@ -17,7 +16,7 @@ fn open(rt: &impl Print, table: &[u64], frame: Length) {
     let opened = opening::open_table(table, frame);
     let answer = opened.answer;
     let start = opened.dispatcher;
-    if let Verdict::Accepted = answer {
+    if let Ok(()) = answer {
         moves(rt, start);
         lent::lines(rt, start);
     }
@@ -65,11 +64,11 @@ fn tick(rt: &impl Print, d: Dispatcher) -> Dispatcher
     let t = dispatcher::tick(d);
     let answer = t.answer;
     let after = t.dispatcher;
-    if let TickAnswer::Ran {
+    if let Ok(Turn::Ran {
         server,
         deadline,
         postponed,
-    } = answer
+    }) = answer
     {
         say::tick(rt, server, deadline, left(after.clock, deadline));
     }

@@ -8,7 +8,6 @@ ghost use Rattle.test_in_time.specs.Working.Segments.{AllInTime};
 use crate::bandwidth::Window;
 use crate::{lists, say};
 use clock::{Length, Moment};
-use refusal::Verdict;
 use trace::Segment;
 
 // File P: a header, two servers and three arrivals. The trace list holds 6 segments, one more than there are.
@@ -36,7 +35,7 @@ fn lay(numbers: &[u8], file: &mut [u8])
 fn run(rt: &impl Print, file: &[u8], list: &mut [u64], finishes: &mut [u32]) {
     let ran = run::run(file, list, finishes);
     let verdict = ran.verdict;
-    if let Verdict::Accepted = verdict {
+    if let Ok(()) = verdict {
         lines(rt, file, list, ran.segments, finishes);
     }
 }

@@ -2,8 +2,8 @@
 ghost use Rattle.dispatcher.specs.Within.{Within};
 
 use clock::{Length, Moment};
-use dispatcher::{Dispatcher, TickAnswer};
-use refusal::{Refusal, Verdict};
+use dispatcher::{Dispatcher, Turn};
+use refusal::Refusal;
 use server::Server;
 
 pub(crate) fn line(rt: &impl Print, text: &[u8]) {
@@ -12,7 +12,7 @@ pub(crate) fn line(rt: &impl Print, text: &[u8]) {
 }
 
 // A table by its frame and how many numbers it has.
-pub(crate) fn opening(rt: &impl Print, frame: u64, numbers: usize, answer: Verdict) {
+pub(crate) fn opening(rt: &impl Print, frame: u64, numbers: usize, answer: Result<(), Refusal>) {
     counted(rt, b"open H ", frame);
     counted(rt, b", ", numbers as u64);
     words(rt, b" numbers: ");
@@ -25,7 +25,7 @@ pub(crate) fn arrival(
     now: Moment,
     server: usize,
     cost: Length,
-    answer: Verdict,
+    answer: Result<(), Refusal>,
     written: bool,
 ) {
     if !written {
@@ -39,20 +39,20 @@ pub(crate) fn arrival(
     end(rt);
 }
 
-pub(crate) fn tick(rt: &impl Print, now: Moment, answer: TickAnswer, written: bool) {
+pub(crate) fn tick(rt: &impl Print, now: Moment, answer: Result<Turn, Refusal>, written: bool) {
     if !written {
         return;
     }
     counted(rt, b"at ", now.tick);
     words(rt, b" tick: ");
     match answer {
-        TickAnswer::Idle => words(rt, b"idle"),
-        TickAnswer::Ran {
+        Ok(Turn::Idle) => words(rt, b"idle"),
+        Ok(Turn::Ran {
             server,
             deadline,
             postponed,
-        } => ran(rt, server, deadline, postponed),
-        TickAnswer::Refused(why) => refused(rt, why),
+        }) => ran(rt, server, deadline, postponed),
+        Err(why) => refused(rt, why),
     }
     end(rt);
 }
@@ -92,10 +92,10 @@ fn ran(rt: &impl Print, server: usize, deadline: Moment, postponed: bool) {
     }
 }
 
-fn verdict(rt: &impl Print, answer: Verdict) {
+fn verdict(rt: &impl Print, answer: Result<(), Refusal>) {
     match answer {
-        Verdict::Accepted => words(rt, b"accepted"),
-        Verdict::Refused(why) => refused(rt, why),
+        Ok(()) => words(rt, b"accepted"),
+        Err(why) => refused(rt, why),
     }
 }
 

@@ -1,5 +1,5 @@
 // What a run gives as lines of text. A line that cannot be written is missing from the output.
-use refusal::{Refusal, Verdict};
+use refusal::Refusal;
 use summary::{Response, Summary};
 
 pub(crate) fn line(rt: &impl Print, text: &[u8]) {
@@ -7,10 +7,10 @@ pub(crate) fn line(rt: &impl Print, text: &[u8]) {
     end(rt);
 }
 
-pub(crate) fn verdict(rt: &impl Print, answer: Verdict) {
+pub(crate) fn verdict(rt: &impl Print, answer: Result<(), Refusal>) {
     match answer {
-        Verdict::Accepted => line(rt, b"accepted"),
-        Verdict::Refused(why) => refused(rt, why),
+        Ok(()) => line(rt, b"accepted"),
+        Err(why) => refused(rt, why),
     }
 }
 

@@ -1,7 +1,9 @@
 -- What ticks one after the other come to, whichever way the dispatcher is passed.
 use Rattle.std.specs.Prelude.{ℕ, zero, suc, ◌+◌, ◌≤◌, cond}
 use Rattle.dispatcher.specs.Course.{a_tick, moved}
-use Rattle.dispatcher.specs.Moves.{Turn, idled, ran_one, tick}
+use Rattle.dispatcher.specs.Moves.{tick}
+use Rattle.dispatcher.specs.declared.Turn.{Turn}
+use Rattle.dispatcher.specs.declared.Turn.TheVariants.{Idle, Ran}
 use Rattle.dispatcher.specs.declared.Dispatcher.{Dispatcher}
 use Rattle.refusal.specs.Refusals.{Said, refused, gave}
 use Rattle.bench_live_ticks.specs.declared.tally.Tallied.{Tallied}
@@ -14,8 +16,8 @@ nothing = record { ran = 0; postponed = 0; idle = 0 }
 -- a tally, and what one tick more answers
 abbrev pub counted : Tally → Said Turn → Tally
 counted t (refused number place) = t
-counted t (gave idled) = record { ran = t.ran; postponed = t.postponed; idle = t.idle + 1 }
-counted t (gave (ran_one i deadline postponed)) =
+counted t (gave Idle) = record { ran = t.ran; postponed = t.postponed; idle = t.idle + 1 }
+counted t (gave (Ran i deadline postponed)) =
     record { ran = t.ran + 1; postponed = t.postponed + cond postponed 1 0; idle = t.idle }
 
 -- no number of a tally is above a limit

@@ -6,7 +6,7 @@ use mathlib.Core.Path.{◌≡◌, sym, ◌∙◌, ap, subst, subst⁻¹}
 use native.Mathlib.Decide.{dec_lt, ℕ_discrete}
 use native.Mathlib.Omega.{arith}
 use Rattle.clock.specs.declared.Moment.{Moment}
-use Rattle.dispatcher.specs.Moves.{idled, ran_one}
+use Rattle.dispatcher.specs.declared.Turn.TheVariants.{Idle, Ran}
 use Rattle.dispatcher.specs.Pick.{server_at, Earliest, NoneWorks}
 use Rattle.dispatcher.specs.Within.{Within}
 use Rattle.dispatcher.specs.declared.Dispatcher.{Dispatcher}
@@ -78,11 +78,11 @@ module _ {w : Work} {places t j : ℕ} {d : Dispatcher} (fit : Fit w places) (s 
         ∙ sym (at_ran w t i k ready_ok clock_is ready_earliest quiet end ready_budget ready_work)
 
     pub event_turns : (q : ℕ) → q < suc k
-        → turn w (t + q) ≡ gave (ran_one i (server_at d i).deadline (eqb ((server_at d i).remaining.ticks - suc q) 0))
+        → turn w (t + q) ≡ gave (Ran i (server_at d i).deadline (eqb ((server_at d i).remaining.ticks - suc q) 0))
     event_turns =
         subst⁻¹
         (λ (x : Dispatcher). (q : ℕ) → q < suc k
-        → turn w (t + q) ≡ gave (ran_one i (server_at x i).deadline (eqb ((server_at x i).remaining.ticks - suc q) 0)))
+        → turn w (t + q) ≡ gave (Ran i (server_at x i).deadline (eqb ((server_at x i).remaining.ticks - suc q) 0)))
         is_ready
         (turn_ran w t i k ready_ok clock_is ready_earliest quiet end ready_budget ready_work)
 
@@ -126,7 +126,7 @@ module _ {w : Work} {places t j : ℕ} {d : Dispatcher} (fit : Fit w places) (s 
     ready_none : NoneWorks (ready w t) (ready w t).count
     ready_none = subst (λ (x : Dispatcher). NoneWorks x x.count) is_ready none
 
-    pub idle_turns : (q : ℕ) → q < suc k → turn w (t + q) ≡ gave idled
+    pub idle_turns : (q : ℕ) → q < suc k → turn w (t + q) ≡ gave Idle
     idle_turns = turn_idle w t k clock_is ready_none quiet end
 
     pub idle_history : (q : ℕ) → q < suc k → history w (t + q) ≡ nobody

@@ -6,7 +6,8 @@ use native.Mathlib.Decide.{dec_lt}
 use native.Mathlib.Omega.{arith}
 use Rattle.clock.specs.declared.Moment.{Moment}
 use Rattle.dispatcher.proofs.MoveLaws.{tick_ran, tick_idle}
-use Rattle.dispatcher.specs.Moves.{Answered, Turn, arrival, tick, ran}
+use Rattle.dispatcher.specs.Moves.{Answered, arrival, tick, ran}
+use Rattle.dispatcher.specs.declared.Turn.{Turn}
 use Rattle.dispatcher.specs.Pick.{picked}
 use Rattle.dispatcher.specs.declared.Dispatcher.{Dispatcher}
 use Rattle.judgement.proofs.FitLaws.{Fit, in_order_all, judged_fit}

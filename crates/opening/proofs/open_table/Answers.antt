@@ -7,19 +7,19 @@ use Rattle.opening.proofs.open_table.Goals as goal
 
 pub start-dispatcher-requires : goal.start-dispatcher-requires
 start-dispatcher-requires c =
-    (accepted_in_range _ _ (sym c.judge-answer.ensures ∙ ap on_paper c.in-Accepted.is)).few
+    (accepted_in_range _ _ (sym c.judge-answer.ensures ∙ ap on_paper c.in-Ok.is)).few
 
-pub returns-in-Accepted : goal.returns-in-Accepted
-returns-in-Accepted c =
-    let told = ap on_paper c.in-Accepted.is in
+pub returns-in-Ok : goal.returns-in-Ok
+returns-in-Ok c =
+    let told = ap on_paper c.in-Ok.is in
     let both =
     and_within (opening_within _ _)
     (rw (told, c.start-dispatcher.ensures) (sym (opening_accepted _ _ (sym c.judge-answer.ensures ∙ told)))) in
     record { result_value = both.0; within = both.1 }
 
-pub returns-in-Refused : goal.returns-in-Refused
-returns-in-Refused c =
-    let told = ap on_paper c.in-Refused.is in
+pub returns-in-Err : goal.returns-in-Err
+returns-in-Err c =
+    let told = ap on_paper c.in-Err.is in
     let both =
     and_within (opening_within _ _)
     (rw (told, c.no_servers-dispatcher.ensures) (sym (opening_refused _ _ _ _ (sym c.judge-answer.ensures ∙ told)))) in

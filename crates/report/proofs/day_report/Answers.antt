@@ -18,16 +18,16 @@ left file list ends after ended r list_long ends_long e =
 
 pub accepted-requires : goal.accepted-requires
 accepted-requires c =
-    ran_told (left _ _ _ _ _ c.run-ran.result c.trace_list-list.ensures c.finish_list-finishes.ensures c.run-ran.ensures) c.in-Accepted.is
+    ran_told (left _ _ _ _ _ c.run-ran.result c.trace_list-list.ensures c.finish_list-finishes.ensures c.run-ran.ensures) c.in-Ok.is
 
-pub returns-in-Accepted : goal.returns-in-Accepted
-returns-in-Accepted c =
+pub returns-in-Ok : goal.returns-in-Ok
+returns-in-Ok c =
     added_as _
-    (sym (report_accepted (left _ _ _ _ _ c.run-ran.result c.trace_list-list.ensures c.finish_list-finishes.ensures c.run-ran.ensures) c.in-Accepted.is))
+    (sym (report_accepted (left _ _ _ _ _ c.run-ran.result c.trace_list-list.ensures c.finish_list-finishes.ensures c.run-ran.ensures) c.in-Ok.is))
     c.accepted.ensures
 
-pub returns-in-Refused : goal.returns-in-Refused
-returns-in-Refused c =
+pub returns-in-Err : goal.returns-in-Err
+returns-in-Err c =
     added_as _
-    (sym (report_refused (left _ _ _ _ _ c.run-ran.result c.trace_list-list.ensures c.finish_list-finishes.ensures c.run-ran.ensures) _ c.in-Refused.is))
+    (sym (report_refused (left _ _ _ _ _ c.run-ran.result c.trace_list-list.ensures c.finish_list-finishes.ensures c.run-ran.ensures) _ c.in-Err.is))
     c.refused.ensures

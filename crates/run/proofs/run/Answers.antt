@@ -1,6 +1,7 @@
 -- `run::run` meets its promise: the verdict is the judgement, and each of its two cases has its outcome.
 use mathlib.Core.Path.{refl, sym, ◌∙◌, ap}
-use Rattle.refusal.specs.declared.Verdict.{Verdict}
+use Rattle.refusal.specs.declared.Refusal.{Refusal}
+use Rattle.std.specs.Prelude.{Result}
 use Rattle.refusal.specs.Refusals.{on_paper}
 use Rattle.run.specs.Outcome.{run_says}
 use Rattle.run.proofs.OutcomeLaws.{made, outcome_accepted, outcome_refused}
@@ -11,15 +12,15 @@ returns-in_default c =
     let told = c.in_default.is in
     let a = c.args in
     ap
-    (λ (v : Verdict). run_says (record { verdict = v; segments = 0; summaries = c.blank_records.result }) a.list.now a.finishes.now)
+    (λ (v : Result (Unit {0}) Refusal). run_says (record { verdict = v; segments = 0; summaries = c.blank_records.result }) a.list.now a.finishes.now)
     told
     ∙ made _ refl c.blank_records.ensures refl refl
     ∙ sym (outcome_refused _ _ _ (sym c.judge-verdict.ensures ∙ ap on_paper told))
 
 pub play-requires : goal.play-requires
-play-requires c = sym c.judge-verdict.ensures ∙ ap on_paper c.in-Accepted.is
+play-requires c = sym c.judge-verdict.ensures ∙ ap on_paper c.in-Ok.is
 
 pub returns : goal.returns
 returns c =
     c.play.ensures
-    ∙ sym (outcome_accepted _ _ _ (sym c.judge-verdict.ensures ∙ ap on_paper c.in-Accepted.is))
+    ∙ sym (outcome_accepted _ _ _ (sym c.judge-verdict.ensures ∙ ap on_paper c.in-Ok.is))

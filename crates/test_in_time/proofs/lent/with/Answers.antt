@@ -6,5 +6,5 @@ use Rattle.test_in_time.proofs.lent.with.Goals as goal
 pub returns-in-Idle : goal.returns-in-Idle
 returns-in-Idle c = rw c.in-Idle.is rw (under_nobody _ _) rw add-zero
 
-pub returns-in-Refused : goal.returns-in-Refused
-returns-in-Refused c = rw c.in-Refused.is rw (under_nobody _ _) rw add-zero
+pub returns-in-Err : goal.returns-in-Err
+returns-in-Err c = rw c.in-Err.is rw (under_nobody _ _) rw add-zero

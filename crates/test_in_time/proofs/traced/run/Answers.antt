@@ -5,4 +5,4 @@ use Rattle.test_in_time.proofs.traced.run.Goals as goal
 pub lines-requires : goal.lines-requires
 lines-requires g c =
     let ran = c.run-ran in
-    ran_left _ _ _ _ _ ran.result ran.ensures c.in-Accepted.is
+    ran_left _ _ _ _ _ ran.result ran.ensures c.in-Ok.is
