@@ -20,8 +20,8 @@ use Rattle.dispatcher.specs.declared.Reply.{Reply}
 use Rattle.dispatcher.specs.declared.Dispatcher.{Dispatcher}
 use Rattle.moments.specs.Moments.{choice_of}
 use Rattle.opening.proofs.OpeningLaws.{accepted_in_range, accepted_admitted, opening_accepted, opened_judged}
-use Rattle.opening.specs.Opening.{listed, table_judged, opening, reply_says}
-use Rattle.refusal.specs.Refusals.{gave, accepted}
+use Rattle.opening.specs.Opening.{listed, table_judged, opening}
+use Rattle.refusal.specs.Refusals.{gave, accepted, on_paper}
 use Rattle.std.specs.Prelude.{Ok}
 use Rattle.server.specs.Server.{idle}
 use Rattle.callers.specs.Live.{Led, LedCounting, OfAcceptedOpenings, WhereverMovesLead}

@@ -1,5 +1,5 @@
 -- Demand 3 for whoever calls the live moves: what is known of the dispatcher that a caller holds, and of what the next tick answers.
-use Rattle.std.specs.Prelude.{ℕ, ◌≤◌, ◌<◌, Bool, true, false, List, ◌≡◌}
+use Rattle.std.specs.Prelude.{ℕ, ◌≤◌, ◌<◌, Bool, true, false, List, Ok, ◌≡◌}
 use Rattle.booking.specs.Admission.{Table}
 use Rattle.clock.specs.declared.Length.{Length}
 use Rattle.clock.specs.declared.Moment.{Moment}
@@ -9,8 +9,9 @@ use Rattle.dispatcher.specs.Course.{Move, after}
 use Rattle.dispatcher.specs.Moves.{tick, reply_says}
 use Rattle.dispatcher.specs.Pick.{server_at}
 use Rattle.dispatcher.specs.declared.Dispatcher.{Dispatcher}
-use Rattle.dispatcher.specs.declared.Turn.TheVariants.{Ran}
 use Rattle.dispatcher.specs.declared.Reply.{Reply}
+use Rattle.dispatcher.specs.declared.Turn.{Turn}
+use Rattle.dispatcher.specs.declared.Turn.TheVariants.{Ran}
 use Rattle.opening.specs.Opening.{listed, table_judged, opening}
 use Rattle.refusal.specs.Refusals.{accepted}
 use Rattle.server.specs.Server.{idle}

@@ -17,7 +17,7 @@ use Rattle.dispatcher.specs.declared.Turn.{Turn}
 use Rattle.dispatcher.specs.Pick.{server_at}
 use Rattle.dispatcher.specs.declared.Reply.{Reply}
 use Rattle.dispatcher.specs.declared.Dispatcher.{Dispatcher}
-use Rattle.opening.specs.Opening.{listed, opening, reply_says}
+use Rattle.opening.specs.Opening.{listed, opening}
 use Rattle.std.specs.Prelude.{Ok}
 use Rattle.server.proofs.MoveLaws.{booking_of}
 use Rattle.sizes.specs.Sizes.{clock_end}

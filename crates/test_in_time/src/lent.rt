@@ -79,7 +79,7 @@ fn round(start: Dispatcher, w: Window, server: usize, cost: Length, times: u64) 
     ensures { Counts w start times result }
 {
     let mut d = start;
-    live_loop::arrival(&mut d, server, cost);
+    let _ = live_loop::arrival(&mut d, server, cost);
     let mut got = 0;
     let mut k = 0;
     while k < times {

@@ -57,6 +57,7 @@ fn ticks(rt: &impl Print, d: Dispatcher, times: u64) -> Dispatcher
 }
 
 // One tick, and a line where a server got it. That it then ended no later than its deadline is demand 3.
+#[tactic(auto, using(crate::proofs::LiveLaws::live_ticked))]
 fn tick(rt: &impl Print, d: Dispatcher) -> Dispatcher
     requires { Live d }
     ensures { Live result }
