@@ -84,11 +84,10 @@ pub fn tick(d: Dispatcher) -> Reply<Turn>
             dispatcher: d,
         };
     }
-    let i = picking::pick(d);
-    if i < d.count {
-        return run(d, i);
+    match picking::pick(d) {
+        Some(i) => run(d, i),
+        None => pass(d, Turn::Idle),
     }
-    pass(d, Turn::Idle)
 }
 
 // The tick as server i's.

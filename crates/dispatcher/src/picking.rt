@@ -1,33 +1,30 @@
 // Step 2 of a moment: which server the tick goes to.
-ghost use Rattle.std.specs.Prelude.{cond, ◌≡◌};
+ghost use Rattle.std.specs.Prelude.{cond, MatchOption, ◌≡◌};
 ghost use Rattle.clock.specs.Clock.{last_tick, moment};
 ghost use Rattle.server.specs.Server.{passed_over};
-ghost use Rattle.dispatcher.specs.Pick.{picked};
+ghost use Rattle.dispatcher.specs.Pick.{Earliest, NoneWorks};
 ghost use Rattle.dispatcher.specs.Within.{Within};
 
 use crate::Dispatcher;
 use clock::Moment;
 use server::Server;
 
-// The number of the server with the earliest deadline among those with work, the lowest of several; the count where none has work.
+// The number of the server with the earliest deadline among those with work, the lowest of several.
 #[tactic(auto, using(crate::proofs::SofarLaws::takes_over, crate::proofs::SofarLaws::stays))]
-pub(crate) fn pick(d: Dispatcher) -> usize
+pub(crate) fn pick(d: Dispatcher) -> Option<usize>
     requires { Within d }
-    ensures { result ≡ picked d }
+    ensures { MatchOption result (NoneWorks d d.count) (λ i. Earliest d d.count i) }
 {
-    let count = d.count;
-    let mut best = count;
+    let mut best = None;
     let mut least = Moment {
         tick: clock::LAST_TICK,
     };
-    let mut i = 0;
-    while i < count {
-        let at = due(d.servers[i]);
+    for (i, s) in d.servers[..d.count].iter().enumerate() {
+        let at = due(*s);
         if at.tick < least.tick {
-            best = i;
+            best = Some(i);
             least = at;
         }
-        i += 1;
     }
     best
 }

@@ -1,21 +1,15 @@
--- `dispatcher::picking::pick` meets its promise: after i turns `best` is the earliest of the first i servers, or none of them works.
-use Rattle.std.proofs.Common.{refl, arith}
-use native.Mathlib.Nat.{not-suc-le-zero}
-use Rattle.dispatcher.proofs.SofarLaws.{nobody, ended}
+-- `dispatcher::picking::pick` meets its promise: a server takes over that is due before the least so far.
+use mathlib.Core.Path.{◌∙◌, ap, sym}
+use Rattle.server.specs.declared.Server.{Server}
+use native.Mathlib.Numerals.{add-one}
+use Rattle.dispatcher.proofs.SofarLaws.{due_of, looked_at, stays, takes_over}
 use Rattle.dispatcher.proofs.picking.pick.Goals as goal
+use Rattle.dispatcher.proofs.picking.pick.Goals.{then-at-least, else-at-least}
 
-pub loop-i-init : goal.loop-i-init
-loop-i-init c = record { fits = omega arith; so_far = nobody refl refl (λ j b. absurd (not-suc-le-zero b)) }
-
-pub offset_bounds-d-i : goal.offset_bounds-d-i
-offset_bounds-d-i c = omega (arith, c.requires.count)
-
-pub bounds-d-i : goal.bounds-d-i
-bounds-d-i c = omega (arith, c.requires.count)
-
-pub overflow_add-i : goal.overflow_add-i
-overflow_add-i c = omega (arith, c.requires.count)
-
-pub returns : goal.returns
-returns c =
-    ended c.args.d _ _ _ c.loop-i.invariant.so_far (omega (arith, c.loop-i-test.false, c.loop-i.invariant.fits))
+pub loop-i-preserved : goal.loop-i-preserved
+loop-i-preserved c =
+    let seen = looked_at c.args.d c.requires c.loop-i.i c.loop-i-test.true in
+    let due = c.due-at.ensures ∙ ap due_of seen.1 in
+    elim c.if-at-least.branch [
+      then-at-least w ↦ rw (w.best-is, w.least-is, due, add-one c.loop-i.i) (takes_over c.args.d c.requires c.loop-i.i seen.0 _ _ c.loop-i.invariant (rw (sym due) w.if-at-least.true))
+    | else-at-least w ↦ rw (w.best-is, w.least-is, add-one c.loop-i.i) (stays c.args.d c.requires c.loop-i.i seen.0 _ _ c.loop-i.invariant (rw (sym due) w.if-at-least.false)) ]
