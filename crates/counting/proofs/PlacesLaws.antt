@@ -1,5 +1,5 @@
 -- Laws of the list of a function's values.
-use Prim.Native.Nat.{ℕ, zero, suc, ◌≤◌, ◌<◌, zero-le, suc-le-suc}
+use Prim.Native.Nat.{ℕ, zero, suc, ◌+◌, ◌≤◌, ◌<◌, zero-le, suc-le-suc}
 use borrow.Author.Tests.{lt-ltb, le-ltb}
 use lib.Dec.{ltb}
 use lib.ListN.{length, get_or, replicate, set}
@@ -7,9 +7,11 @@ use mathlib.Core.Bool.{cond}
 use mathlib.Core.List.{List, [], ◌∷◌}
 use mathlib.Core.Logic.{◌≢◌}
 use mathlib.Core.Path.{◌≡◌, refl, sym, ◌∙◌, ap, ap₂}
-use native.Mathlib.Decide.{dec_lt}
+use native.Mathlib.Decide.{dec_lt, ℕ_discrete}
 use native.Mathlib.Nat.{le_of_suc-le-suc, not-suc-le-zero}
 use native.Mathlib.Omega.{arith}
+use denote.Param.Members.{Mut, Called}
+use Rattle.std.specs.Array.{IsFromFnResult, IsFromFnResultFrom}
 use Rattle.counting.specs.Places.{places}
 
 module _ {A : Type 0} where
@@ -77,3 +79,21 @@ module _ {A : Type 0} where
       go : (i : ℕ) → i < n → Dec (i < k) → filled f d k i ≡ f i
       go i h (yes b) = rw (lt-ltb i k b)
       go i h (no b) = rw (le-ltb i k (omega arith)) (sym (behind i h (omega arith)))
+
+-- What a closure makes of each index in turn, where each call gives f's value there, in every state P of the closure that calls lead to.
+module _ {F A : Type 0} (g : Mut F (ℕ × Unit {0}) A) (P : F → Type 0) (l : List A) (n : ℕ) (f : ℕ → A)
+    (gives : (c d : F) (i : ℕ) (a : A) → P c → i < n → Called g c (i, tt) a d → (a ≡ f i) × P d) where
+  made_from : (m i : ℕ) (c : F) → P c → i + m ≡ n → IsFromFnResultFrom g c l i m → (j : ℕ) → i ≤ j → j < n → get_or l j (f 0) ≡ f j
+  made_from zero i c p e made j from to = let no : ⊥ = omega arith in absurd no
+  made_from (suc m) i c p e (d, a, at, call, rest) j from to =
+      let here = gives c d i a p (omega arith) call in
+      go (ℕ_discrete i j) (at.1 (f 0) ∙ here.0) (λ more. made_from m (i + 1) d here.1 (omega arith) rest j more to)
+    where
+      go : Dec (i ≡ j) → get_or l i (f 0) ≡ f i → (i + 1 ≤ j → get_or l j (f 0) ≡ f j) → get_or l j (f 0) ≡ f j
+      go (yes q) own later = rw (sym q) own
+      go (no q) own later = later (omega arith)
+
+  pub places_made : (c : F) → P c → IsFromFnResult g c l n → l ≡ places n f
+  places_made c p made =
+      sym (places_get_d l (f 0))
+      ∙ rw made.long (places_same n (λ i. get_or l i (f 0)) f (λ i h. made_from n 0 c p (omega arith) made.each i (omega arith) h))

@@ -4,7 +4,6 @@
 #![tactic(auto)]
 
 mod picking;
-mod places;
 
 ghost use Rattle.std.specs.Prelude.{◌≡◌, ◌<◌};
 ghost use Rattle.sizes.specs.Sizes.{clock_end};
@@ -47,7 +46,7 @@ pub enum Turn {
 }
 
 // Work for one server at this moment of the clock: refused by 6 or 11, or else accepted.
-pub fn arrival(d: Dispatcher, server: usize, cost: Length) -> Reply<()>
+pub fn arrival(mut d: Dispatcher, server: usize, cost: Length) -> Reply<()>
     requires { Within d }
     ensures result_value { reply_says result ≡ arrival d server cost }
     ensures within { Within result.dispatcher }
@@ -58,17 +57,17 @@ pub fn arrival(d: Dispatcher, server: usize, cost: Length) -> Reply<()>
             dispatcher: d,
         };
     }
-    let s = places::server_at(d, server);
+    let s = d.servers[server];
     if sizes::MOST_WAITING - s.waiting.ticks < cost.ticks {
         return Reply {
             answer: Err(Refusal::WaitingWork),
             dispatcher: d,
         };
     }
-    let taken = places::with_server(d, server, steps::take(s, d.clock, cost));
+    d.servers[server] = steps::take(s, d.clock, cost);
     Reply {
         answer: Ok(()),
-        dispatcher: taken,
+        dispatcher: d,
     }
 }
 
@@ -91,20 +90,19 @@ pub fn tick(d: Dispatcher) -> Reply<Turn>
 }
 
 // The tick as server i's.
-fn run(d: Dispatcher, i: usize) -> Reply<Turn>
+fn run(mut d: Dispatcher, i: usize) -> Reply<Turn>
     requires within { Within d × Earliest d d.count i }
     requires tick_lt_clock_end { d.clock.tick < clock_end }
     ensures { reply_says result ≡ ran d i }
 {
-    let s = places::server_at(d, i);
-    let deadline = s.deadline;
+    let s = d.servers[i];
     let turn = Turn::Ran {
         server: i,
-        deadline,
+        deadline: s.deadline,
         postponed: s.remaining.ticks == 1,
     };
-    let served = places::with_server(d, i, steps::serve(s));
-    pass(served, turn)
+    d.servers[i] = steps::serve(s);
+    pass(d, turn)
 }
 
 // Step 4 of a moment: its clock goes on, and the tick is answered.
@@ -112,8 +110,7 @@ fn pass(mut d: Dispatcher, turn: Turn) -> Reply<Turn>
     requires { d.clock.tick < clock_end }
     ensures { reply_says result ≡ leaving (gave turn) (one_later d) }
 {
-    let later = clock::later(d.clock, Length { ticks: 1 });
-    d.clock = later;
+    d.clock = clock::later(d.clock, Length { ticks: 1 });
     Reply {
         answer: Ok(turn),
         dispatcher: d,

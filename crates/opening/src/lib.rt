@@ -1,10 +1,10 @@
 // Opening a live table: a lent list of Q, T pairs and the frame H become a dispatcher, or are refused by number and place.
 #![tactic(auto)]
 
-ghost use Rattle.std.specs.Prelude.{false, ◌≡◌, ◌+◌, ◌*◌, ◌/◌, ◌≤◌, ◌<◌, length};
+ghost use Rattle.std.specs.Prelude.{◌≡◌, ◌<◌, get_or};
 ghost use Rattle.booking.specs.Sheet.{sheet_of};
 ghost use Rattle.dispatcher.specs.Moves.{reply_says};
-ghost use Rattle.dispatcher.specs.Start.{at_start};
+ghost use Rattle.dispatcher.specs.Start.{at_start, start_at};
 ghost use Rattle.dispatcher.specs.Within.{Within};
 ghost use Rattle.refusal.specs.Refusals.{on_paper};
 ghost use Rattle.sizes.specs.Sizes.{most_servers};
@@ -14,6 +14,8 @@ use booking::{Booking, Sheet};
 use clock::{Length, Moment};
 use dispatcher::{Dispatcher, Reply};
 use refusal::Refusal;
+use server::Server;
+use std::array;
 
 // The dispatcher of a table, at its start, or a refusal and a dispatcher with no servers.
 pub fn open_table(table: &[u64], frame: Length) -> Reply<()>
@@ -42,73 +44,65 @@ fn judge(table: &[u64], frame: Length) -> Result<(), Refusal>
 fn is_out_of_range(numbers: usize, frame: Length) -> bool
     ensures { result ≡ out_of_range numbers frame }
 {
-    let h = frame.ticks;
-    if h < 1 {
-        return true;
-    }
-    if sizes::MOST_FRAME < h {
-        return true;
-    }
-    if sizes::MOST_SERVERS < numbers / 2 {
-        return true;
-    }
-    numbers % 2 != 0
+    frame.ticks < 1
+        || sizes::MOST_FRAME < frame.ticks
+        || sizes::MOST_SERVERS < numbers / 2
+        || numbers % 2 != 0
 }
 
-// The booking sheet of a table in range.
+// The booking sheet of a table.
 fn sheet_of(table: &[u64], frame: Length) -> Sheet
-    requires { out_of_range (length table.now) frame ≡ false }
     ensures { result ≡ sheet_of frame (listed table.now) }
 {
-    let blank = Booking {
-        budget: Length { ticks: 0 },
-        period: Length { ticks: 0 },
-    };
-    let count = table.len() / 2;
-    let mut bookings = [blank; sizes::MOST_SERVERS];
-    let mut k = 0;
-    while k < count {
-        bookings[k] = booking_at(table, k);
-        k += 1;
-    }
     Sheet {
         frame,
-        count,
-        bookings,
+        count: table.len() / 2,
+        bookings: array::from_fn(|k| booking_at(table, k)),
     }
 }
 
-// The k-th pair.
+// The k-th pair. Behind the end of the list all counts 0.
 fn booking_at(table: &[u64], k: usize) -> Booking
-    requires { 2 * k + 1 < length table.now }
+    requires { k < most_servers }
     ensures { result ≡ (listed table.now).booking k }
 {
-    let at = 2 * k;
     Booking {
-        budget: Length { ticks: table[at] },
+        budget: Length {
+            ticks: number_at(table, 2 * k),
+        },
         period: Length {
-            ticks: table[at + 1],
+            ticks: number_at(table, 2 * k + 1),
         },
     }
 }
 
+fn number_at(table: &[u64], at: usize) -> u64
+    ensures { result ≡ get_or table.now at 0 }
+{
+    table.get(at).copied().unwrap_or(0)
+}
+
 // The table's dispatcher at its start.
 fn start(table: &[u64], frame: Length) -> Dispatcher
-    requires { length table.now / 2 ≤ most_servers }
     ensures { result ≡ at_start frame (listed table.now) }
 {
-    let count = table.len() / 2;
-    let mut servers = [server::vacant(); sizes::MOST_SERVERS];
-    let mut k = 0;
-    while k < count {
-        servers[k] = server::fresh(booking_at(table, k));
-        k += 1;
-    }
     Dispatcher {
         frame,
-        count,
+        count: table.len() / 2,
         clock: Moment { tick: 0 },
-        servers,
+        servers: array::from_fn(|k| server_at(table, k)),
+    }
+}
+
+// The server at place k at the start: behind those of the table a vacant one.
+fn server_at(table: &[u64], k: usize) -> Server
+    requires { k < most_servers }
+    ensures { result ≡ start_at (listed table.now) k }
+{
+    if k < table.len() / 2 {
+        server::fresh(booking_at(table, k))
+    } else {
+        server::vacant()
     }
 }
 

@@ -2,7 +2,7 @@
 -- within the ranges.
 use Prim.Native.Nat.{ℕ, ◌+◌, ◌-◌, ◌≤◌, ◌<◌}
 use mathlib.Core.Bool.{Bool, false}
-use mathlib.Core.Path.{◌≡◌, sym, ◌∙◌}
+use mathlib.Core.Path.{◌≡◌, refl, sym, ◌∙◌}
 use native.Mathlib.Omega.{arith}
 use Rattle.arrival.specs.Arrival.{faulty_arrival}
 use Rattle.clock.specs.declared.Length.{Length}
@@ -43,40 +43,36 @@ returns-then-is_faulty c =
     (sym (arrival_faulty _ _ _ (sym c.is_faulty.ensures ∙ c.if-is_faulty.true))) in
     record { result_value = both.0; within = both.1 }
 
-pub server_at-s-requires : goal.server_at-s-requires
-server_at-s-requires c = below c.args.d c.requires c.args.server c.args.cost c.is_faulty.ensures c.if-is_faulty.false
+pub bounds-d-server : goal.bounds-d-server
+bounds-d-server c = below c.args.d c.requires c.args.server c.args.cost c.is_faulty.ensures c.if-is_faulty.false
 
 pub overflow_sub-s : goal.overflow_sub-s
 overflow_sub-s c =
-    (ranged c.args.d c.requires c.args.server c.args.cost c.is_faulty.ensures c.if-is_faulty.false _ c.server_at-s.ensures).waiting
+    (ranged c.args.d c.requires c.args.server c.args.cost c.is_faulty.ensures c.if-is_faulty.false _ refl).waiting
 
 pub returns-then-s-cost : goal.returns-then-s-cost
 returns-then-s-cost c =
     let a = c.args in
     let fault = no_fault a.d c.requires a.server a.cost c.is_faulty.ensures c.if-is_faulty.false in
-    let here = ranged a.d c.requires a.server a.cost c.is_faulty.ensures c.if-is_faulty.false _ c.server_at-s.ensures in
+    let here = ranged a.d c.requires a.server a.cost c.is_faulty.ensures c.if-is_faulty.false _ refl in
     let both =
     and_within (arrival_within c.requires _ _)
     (sym
     (arrival_too_much a.d a.server a.cost fault
-    (rw (sym c.server_at-s.ensures) (omega (arith, c.if-s-cost.true, here.waiting))))) in
+    (omega (arith, c.if-s-cost.true, here.waiting)))) in
     record { result_value = both.0; within = both.1 }
 
-pub with_server-taken-requires : goal.with_server-taken-requires
-with_server-taken-requires c = below c.args.d c.requires c.args.server c.args.cost c.is_faulty.ensures c.if-is_faulty.false
+pub bounds-d-server-2 : goal.bounds-d-server-2
+bounds-d-server-2 c = below c.args.d c.requires c.args.server c.args.cost c.is_faulty.ensures c.if-is_faulty.false
 
 pub returns : goal.returns
 returns c =
     let a = c.args in
     let fault = no_fault a.d c.requires a.server a.cost c.is_faulty.ensures c.if-is_faulty.false in
-    let here = ranged a.d c.requires a.server a.cost c.is_faulty.ensures c.if-is_faulty.false _ c.server_at-s.ensures in
-    let room = fits a.d c.requires a.server a.cost c.is_faulty.ensures c.if-is_faulty.false _ c.server_at-s.ensures c.if-s-cost.false in
+    let here = ranged a.d c.requires a.server a.cost c.is_faulty.ensures c.if-is_faulty.false _ refl in
+    let room = fits a.d c.requires a.server a.cost c.is_faulty.ensures c.if-is_faulty.false _ refl c.if-s-cost.false in
     let both =
     and_within (arrival_within c.requires _ _)
-    (rw (
-      c.with_server-taken.ensures,
-      c.take.ensures ∙ arrival_ranged here c.requires.clock a.cost room,
-      c.server_at-s.ensures,
-    )
-    (sym (arrival_whole a.d a.server a.cost fault (rw (sym c.server_at-s.ensures) room)))) in
+    (rw (c.take.ensures ∙ arrival_ranged here c.requires.clock a.cost room)
+    (sym (arrival_whole a.d a.server a.cost fault room))) in
     record { result_value = both.0; within = both.1 }

@@ -5,4 +5,4 @@ use Rattle.clock.proofs.ClockLaws.{up_to_last_whole}
 use Rattle.dispatcher.proofs.pass.Goals as goal
 
 pub returns : goal.returns
-returns c = rw (c.later-later.ensures ∙ up_to_last_whole _ (omega arith))
+returns c = rw (c.later-d.ensures ∙ up_to_last_whole _ (omega arith))

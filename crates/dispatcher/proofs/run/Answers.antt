@@ -19,9 +19,6 @@ last_left n h = go (ℕ_discrete n 1)
     go (yes e) = rw e
     go (no e) = ne_eqb _ _ e ∙ sym (ne_eqb (n - 1) 0 (λ z. e (omega arith)))
 
-pub pass-requires : goal.pass-requires
-pass-requires c = rw c.with_server-served.ensures c.requires.tick_lt_clock_end
-
 -- the server works, has budget left, and is within its ranges
 pub returns : goal.returns
 unfolding ran
@@ -29,9 +26,7 @@ returns c =
     let pre = c.requires.within in
     c.pass.ensures
     ∙ rw (
-      c.with_server-served.ensures,
       c.serve.ensures,
-      c.server_at-s.ensures,
       tick_ranged (pre.0.servers _ pre.1.among) pre.0.clock (eqb-false _ _ (earliest_busy pre.1)) (earliest_charged pre.0 pre.1),
       last_left _ (earliest_charged pre.0 pre.1),
     )

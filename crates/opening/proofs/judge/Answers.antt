@@ -16,9 +16,6 @@ returns-then-is_out_of_range c = sym (judged_out_of_range _ _ (sym c.is_out_of_r
 not_out : (numbers : ℕ) (frame : Length) {test : Bool} → test ≡ out_of_range numbers frame → test ≡ false → out_of_range numbers frame ≡ false
 not_out numbers frame is off = sym is ∙ off
 
-pub sheet_of-requires : goal.sheet_of-requires
-sheet_of-requires c = not_out (length c.args.table.now) c.args.frame c.is_out_of_range.ensures c.if-is_out_of_range.false
-
 pub returns : goal.returns
 returns c =
     let given = c.args in

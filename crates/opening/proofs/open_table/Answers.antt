@@ -2,12 +2,8 @@
 use mathlib.Core.Path.{sym, ◌∙◌, ap}
 use Rattle.dispatcher.proofs.MoveLaws.{and_within}
 use Rattle.refusal.specs.Refusals.{on_paper}
-use Rattle.opening.proofs.OpeningLaws.{accepted_in_range, opening_accepted, opening_refused, opening_within}
+use Rattle.opening.proofs.OpeningLaws.{opening_accepted, opening_refused, opening_within}
 use Rattle.opening.proofs.open_table.Goals as goal
-
-pub start-dispatcher-requires : goal.start-dispatcher-requires
-start-dispatcher-requires c =
-    (accepted_in_range _ _ (sym c.judge-answer.ensures ∙ ap on_paper c.in-Ok.is)).few
 
 pub returns-in-Ok : goal.returns-in-Ok
 returns-in-Ok c =

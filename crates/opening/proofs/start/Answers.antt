@@ -1,27 +1,12 @@
--- `opening::start` meets its promise: after k turns the places are those of the table's first k servers.
-use Prim.Native.Nat.{◌-◌}
-use mathlib.Core.Path.{refl}
-use native.Mathlib.Nat.{le_antisymm}
-use native.Mathlib.Numerals.{add-one}
-use native.Mathlib.Omega.{arith}
-use Rattle.dispatcher.specs.Start.{at_start}
-use Rattle.dispatcher.proofs.StartLaws.{start_none, start_more}
+-- `opening::start` meets its promise: each place has its server.
+use Rattle.std.proofs.Common.{rules}
+use mathlib.Core.Path.{◌≡◌, refl}
+use Rattle.counting.proofs.PlacesLaws.{places_made}
+use Rattle.dispatcher.specs.Start.{at_start, start_at}
+use Rattle.opening.specs.Opening.{listed}
 use Rattle.opening.proofs.start.Goals as goal
-
-pub loop-k-init : goal.loop-k-init
-loop-k-init c = (omega arith, rw c.vacant-servers.ensures (start_none _))
-
-pub booking_at-requires : goal.booking_at-requires
-booking_at-requires c = omega (arith, c.loop-k-test.true)
-
-pub loop-k-preserved : goal.loop-k-preserved
-loop-k-preserved c = (
-  omega arith,
-  rw (add-one, c.loop-k.invariant.1, c.fresh.ensures, c.booking_at.ensures)
-      (start_more _ _ (omega arith)),
-)
 
 pub returns : goal.returns
 unfolding at_start
 returns c =
-    rw (c.loop-k.invariant.1, le_antisymm c.loop-k.invariant.0 c.loop-k-test.false) refl
+    rw (places_made _ (λ f. f.0.now ≡ c.args.table.now) _ _ (start_at (listed c.args.table.now)) (λ p q i a same h call. search rules) _ refl c.from_fn.ensures.items) refl
