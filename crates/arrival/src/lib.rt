@@ -6,7 +6,7 @@ ghost use Rattle.arrival.specs.Arrival.{faulty_arrival};
 
 use clock::{Length, Moment};
 
-#[derive(Clone, Copy)]
+#[derive(Clone, Copy, PartialEq, Eq, Default, Debug)]
 pub struct Arrival {
     pub moment: Moment,
     pub server: usize,
@@ -17,12 +17,5 @@ pub struct Arrival {
 pub fn is_faulty(count: usize, server: usize, cost: Length) -> bool
     ensures { result ≡ faulty_arrival count server cost }
 {
-    let ticks = cost.ticks;
-    if server >= count {
-        return true;
-    }
-    if ticks < 1 {
-        return true;
-    }
-    sizes::MOST_COST < ticks
+    server >= count || !(1..=sizes::MOST_COST).contains(&cost.ticks)
 }

@@ -1,19 +1,18 @@
 -- Admission case by case, and what it gives of an admitted table.
-use Prim.Native.Nat.{ℕ, ◌+◌, ◌*◌, ◌/◌, ◌≤◌, ◌<◌}
+use Prim.Native.Nat.{ℕ, ◌*◌, ◌/◌, ◌≤◌, ◌<◌, zero-le}
 use borrow.Author.Tests.{ltb-false}
 use lib.Dec.{ltb}
 use mathlib.Core.Bool.{true, false, cond}
-use mathlib.Core.Path.{◌≡◌, sym, ◌∙◌, ap, ap₂, subst}
-use native.Mathlib.Nat.{le_trans, le_of_mul-le-mul_right, mul-le-mul_right, not-suc-le-zero}
-use native.Mathlib.Numerals.{add-one}
+use mathlib.Core.Path.{◌≡◌, refl, sym, ◌∙◌, ap, ap₂, subst}
+use native.Mathlib.Nat.{le_trans, le_of_mul-le-mul_right, mul-le-mul_right}
 use native.Mathlib.Omega.{arith}
 use Rattle.clock.specs.declared.Length.{Length}
-use Rattle.counting.proofs.BelowLaws.{below_suc}
 use Rattle.counting.proofs.FirstLaws.{first_is, first_none, first_before, first_same}
 use Rattle.counting.proofs.SumLaws.{sum_mono, sum_same, sum_times}
 use Rattle.counting.specs.Sum.{sum}
 use Rattle.refusal.proofs.AcceptedLaws.{accepted_test}
 use Rattle.refusal.specs.Refusals.{refused, accepted}
+use Rattle.std.specs.Prelude.{Option, Some, None, SomeIff, MatchOption}
 use Rattle.booking.specs.Admission.{Table, first_faulty, shares, admission}
 use Rattle.booking.specs.declared.Booking.{Booking}
 use Rattle.booking.specs.Share.{faulty_booking, share}
@@ -24,17 +23,22 @@ module _ (H : Length) (t : Table) where
   abbrev pub NoneFaulty : ℕ → Type 0
   NoneFaulty k = (j : ℕ) → j < k → faulty_booking H (t.booking j) ≡ false
 
-  pub none_yet : NoneFaulty 0
-  none_yet j b = absurd (not-suc-le-zero b)
-
-  pub none_more : {k : ℕ} → NoneFaulty k → faulty_booking H (t.booking k) ≡ false → NoneFaulty (k + 1)
-  none_more {k} none f = rw add-one (below_suc (λ (j : ℕ). faulty_booking H (t.booking j) ≡ false) k none f)
-
   pub first_found : {k : ℕ} → NoneFaulty k → k < t.count → faulty_booking H (t.booking k) ≡ true → first_faulty H t ≡ k
   first_found {k} none h f = first_is t.count (λ j. faulty_booking H (t.booking j)) k h f none
 
   pub none_found : {k : ℕ} → NoneFaulty k → k ≡ t.count → first_faulty H t ≡ k
   none_found {k} none e = first_none t.count (λ j. faulty_booking H (t.booking j)) (subst NoneFaulty e none) ∙ sym e
+
+  -- and so what is found where the first one is sought
+  pub first_told : (found : Option ℕ)
+      → MatchOption found ((k : ℕ) → 0 ≤ k → k < t.count → faulty_booking H (t.booking k) ≡ false)
+      (λ k. (0 ≤ k) × (k < t.count) × (faulty_booking H (t.booking k) ≡ true)
+      × ((j : ℕ) → 0 ≤ j → j < k → faulty_booking H (t.booking j) ≡ false))
+      → SomeIff found (first_faulty H t < t.count) (first_faulty H t)
+  first_told None none = λ less. omega (arith, less, none_found (λ j b. none j zero-le b) refl)
+  first_told (Some k) at =
+      let is = first_found (λ j b. at.3 j zero-le b) at.1 at.2 in
+      (omega (arith, at.1, is), sym is)
 
   pub none_faulty : t.count ≤ first_faulty H t → NoneFaulty t.count
   none_faulty e k h = first_before t.count (λ j. faulty_booking H (t.booking j)) k (le_trans h e)

@@ -1,9 +1,9 @@
 -- How the shares are taken off what is left line by line, what the foot of a sheet says, and that the sheet of a table stands for the table.
 use Prim.Native.Nat.{ℕ, suc, ◌+◌, ◌-◌, ◌≤◌, ◌<◌}
-use borrow.Author.Tests.{lt-ltb, le-ltb, ltb-true}
+use borrow.Author.Tests.{lt-ltb, le-ltb}
 use lib.Dec.{ltb}
-use mathlib.Core.Bool.{Bool, true, false, cond}
-use mathlib.Core.Path.{◌≡◌, refl, sym, ◌∙◌, ap, ap₂, subst}
+use mathlib.Core.Bool.{cond}
+use mathlib.Core.Path.{◌≡◌, ◌∙◌, ap, ap₂, subst}
 use native.Mathlib.Nat.{le_refl}
 use native.Mathlib.Numerals.{add-one}
 use native.Mathlib.Omega.{arith}
@@ -13,12 +13,11 @@ use Rattle.counting.proofs.FirstLaws.{first_none}
 use Rattle.counting.proofs.PlacesLaws.{get_d_places}
 use Rattle.counting.proofs.SumLaws.{sum_first}
 use Rattle.counting.specs.Sum.{sum}
-use Rattle.refusal.specs.Refusals.{Said, refused, accepted}
+use Rattle.refusal.specs.declared.Refusal.TheVariants.{Shares}
 use Rattle.sizes.specs.Sizes.{most_servers}
+use Rattle.std.specs.Prelude.{Ok, Err}
 use Rattle.booking.specs.Admission.{Table, admission, first_faulty, shares}
 use Rattle.booking.specs.declared.Booking.{Booking}
-use Rattle.booking.specs.declared.Foot.{Foot}
-use Rattle.booking.specs.declared.Foot.TheVariants.{Faulty, Over, Left}
 use Rattle.booking.specs.declared.Sheet.{Sheet}
 use Rattle.booking.specs.Share.{booked, faulty_booking, share}
 use Rattle.booking.specs.Sheet.{left_of, sheet_of, table_on}
@@ -50,66 +49,25 @@ module _ (H : Length) (t : Table) where
   pub left_within : (k left : ℕ) → LeftBehind k left → left ≤ H.ticks
   left_within k left is = omega (arith, is)
 
-  pub foot_faulty : {k : ℕ} → k ≡ first_faulty H t → k < t.count → foot_of H t ≡ Faulty k
-  foot_faulty {k} e h = rw (sym e, lt-ltb k t.count h)
-
   -- the foot where no booking is faulty
   module _ (none : t.count ≤ first_faulty H t) where
-    foot_unfaulty : foot_of H t ≡ cond (ltb H.ticks (shares H t)) Over (Left (ticks (H.ticks - shares H t)))
+    foot_unfaulty : foot_of H t ≡ cond (ltb H.ticks (shares H t)) (Err Shares) (Ok (ticks (H.ticks - shares H t)))
     foot_unfaulty = rw (le-ltb (first_faulty H t) t.count none)
 
     -- a share that is more than what is left
     pub left_over : {k left : ℕ} {b : Booking} {r : Length} → k < t.count → b ≡ t.booking k → r ≡ share H b → left < r.ticks
         → LeftBehind k left
-        → foot_of H t ≡ Over
+        → foot_of H t ≡ Err Shares
     unfolding sum
     left_over {k} {left} {b} {r} below read e less is =
         let first = sum_first t.count (suc k) (λ j. (share H (t.booking j)).ticks) below in
         rw (foot_unfaulty, lt-ltb H.ticks (shares H t) (omega (arith, is, less, share_read {k = k} read e, first)))
 
     -- all of them taken off
-    pub left_last : {k left : ℕ} → k ≡ t.count → LeftBehind k left → foot_of H t ≡ Left (ticks left)
+    pub left_last : {k left : ℕ} → k ≡ t.count → LeftBehind k left → foot_of H t ≡ Ok (ticks left)
     left_last {k} {left} e is =
         let whole : LeftBehind t.count left = subst (λ (n : ℕ). LeftBehind n left) e is in
-        rw (foot_unfaulty, le-ltb H.ticks (shares H t) (omega (arith, whole))) (ap (λ (n : ℕ). Left (ticks n)) (omega (arith, whole)))
-
--- what each case of a foot says of its table
-abbrev pub foot_says : Foot → Said (Unit {0})
-foot_says (Faulty first) = refused 4 first
-foot_says Over = refused 5 0
-foot_says (Left left) = accepted
-
-foot_admits : (H : Length) (t : Table) → foot_says (foot_of H t) ≡ admission H t
-foot_admits H t = go (ltb (first_faulty H t) t.count) (ltb H.ticks (shares H t))
-  where
-    go : (four five : Bool)
-        → foot_says (cond four (Faulty (first_faulty H t)) (cond five Over (Left (ticks (H.ticks - shares H t)))))
-        ≡ cond four (refused 4 (first_faulty H t)) (cond five (refused 5 0) accepted)
-    go true five = refl
-    go false true = refl
-    go false false = refl
-
-pub foot_told : (s : Sheet) {f g : Foot} → f ≡ foot_of s.frame (table_on s) → f ≡ g → foot_says g ≡ admission s.frame (table_on s)
-foot_told s found told = sym (ap foot_says told) ∙ ap foot_says found ∙ foot_admits s.frame (table_on s)
-
--- and what it leaves of the frame
-abbrev pub left_at : Foot → Length
-left_at (Faulty first) = ticks 0
-left_at Over = ticks 0
-left_at (Left left) = left
-
-foot_leaves : (H : Length) (t : Table) → left_at (foot_of H t) ≡ left_of H t
-foot_leaves H t = go (ltb (first_faulty H t) t.count) (ltb H.ticks (shares H t)) refl
-  where
-    go : (four five : Bool) → ltb H.ticks (shares H t) ≡ five
-        → left_at (cond four (Faulty (first_faulty H t)) (cond five Over (Left (ticks (H.ticks - shares H t)))))
-        ≡ cond four (ticks 0) (ticks (H.ticks - shares H t))
-    go true five e = refl
-    go false true e = ap ticks (omega (arith, ltb-true H.ticks (shares H t) e))
-    go false false e = refl
-
-pub left_told : (s : Sheet) {f g : Foot} → f ≡ foot_of s.frame (table_on s) → f ≡ g → left_at g ≡ left_of s.frame (table_on s)
-left_told s found told = sym (ap left_at told) ∙ ap left_at found ∙ foot_leaves s.frame (table_on s)
+        rw (foot_unfaulty, le-ltb H.ticks (shares H t) (omega (arith, whole))) (ap (λ (n : ℕ). Ok (ticks n)) (omega (arith, whole)))
 
 -- The sheet of a table stands for it: there is room for all that a table may have.
 module _ (H : Length) (t : Table) (room : t.count ≤ most_servers) {s : Sheet} (read : s ≡ sheet_of H t) where

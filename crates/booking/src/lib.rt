@@ -2,18 +2,17 @@
 // by which it is admitted.
 #![tactic(auto)]
 
-ghost use Rattle.std.specs.Prelude.{◌≤◌, get_or, false, ◌≡◌};
-ghost use Rattle.clock.specs.Clock.{ticks};
+ghost use Rattle.std.specs.Prelude.{◌≤◌, ◌<◌, false, SomeIff, ◌≡◌};
 ghost use Rattle.refusal.specs.Refusals.{on_paper};
 ghost use Rattle.booking.specs.Admission.{admission, first_faulty};
-ghost use Rattle.booking.specs.Share.{booked, faulty_booking, share};
+ghost use Rattle.booking.specs.Share.{faulty_booking, share};
 ghost use Rattle.booking.specs.Sheet.{left_of, table_on};
 ghost use Rattle.booking.specs.Working.Foot.{foot_of};
 
 use clock::Length;
 use refusal::Refusal;
 
-#[derive(Clone, Copy)]
+#[derive(Clone, Copy, PartialEq, Eq, Default, Debug)]
 pub struct Booking {
     // Q
     pub budget: Length,
@@ -22,7 +21,7 @@ pub struct Booking {
 }
 
 // A booking sheet: the frame, and the bookings of a table one below the other.
-#[derive(Clone, Copy)]
+#[derive(Clone, Copy, PartialEq, Eq, Debug)]
 pub struct Sheet {
     // H
     pub frame: Length,
@@ -31,104 +30,56 @@ pub struct Sheet {
     pub bookings: [Booking; sizes::MOST_SERVERS],
 }
 
-// What stands at the foot of a sheet.
-#[derive(Clone, Copy)]
-enum Foot {
-    // The first booking that is faulty.
-    Faulty(usize),
-    // A share is more than what is left for it.
-    Over,
-    // What is left of the frame.
-    Left(Length),
-}
-
 // The verdict on the table of a sheet: 4 at the first faulty server, then 5.
 pub fn admit(sheet: Sheet) -> Result<(), Refusal>
     ensures { on_paper result ≡ admission sheet.frame (table_on sheet) }
 {
-    let foot = foot_of(sheet);
-    match foot {
-        Foot::Faulty(first) => Err(Refusal::FaultyServer(first)),
-        Foot::Over => Err(Refusal::Shares),
-        Foot::Left(_) => Ok(()),
-    }
+    foot_of(&sheet).map(|_| ())
 }
 
 // What the shares on a sheet leave of its frame; nothing where the table is not admitted.
 pub fn left_on(sheet: Sheet) -> Length
     ensures { result ≡ left_of sheet.frame (table_on sheet) }
 {
-    let foot = foot_of(sheet);
-    match foot {
-        Foot::Faulty(_) => Length { ticks: 0 },
-        Foot::Over => Length { ticks: 0 },
-        Foot::Left(left) => left,
+    foot_of(&sheet).unwrap_or_default()
+}
+
+// The foot of a sheet: what is left of the frame, or the refusal. All bookings are looked at for a fault before the first share is taken
+// off, so that an overrun hides none.
+fn foot_of(sheet: &Sheet) -> Result<Length, Refusal>
+    ensures { result ≡ foot_of sheet.now.frame (table_on sheet.now) }
+{
+    match first_faulty(sheet) {
+        Some(first) => Err(Refusal::FaultyServer(first)),
+        None => take_off(sheet),
     }
 }
 
-// The foot of a sheet. All bookings are looked at for a fault before the first share is taken off, so that an overrun hides none.
-fn foot_of(sheet: Sheet) -> Foot
-    ensures { result ≡ foot_of sheet.frame (table_on sheet) }
+// The first booking that is faulty, where one is.
+fn first_faulty(sheet: &Sheet) -> Option<usize>
+    ensures { let first = first_faulty sheet.now.frame (table_on sheet.now) in SomeIff result (first < sheet.now.count) first }
 {
-    let first = first_faulty(sheet);
-    if first < sheet.count {
-        return Foot::Faulty(first);
-    }
-    take_off(sheet)
-}
-
-// The first booking that is faulty, or the count where none is.
-fn first_faulty(sheet: Sheet) -> usize
-    ensures { result ≡ first_faulty sheet.frame (table_on sheet) }
-{
-    let mut k = 0;
-    while k < sheet.count {
-        let b = booking_on(sheet, k);
-        if is_faulty(sheet.frame.ticks, b.budget.ticks, b.period.ticks) {
-            return k;
-        }
-        k += 1;
-    }
-    sheet.count
+    (0..sheet.count).find(|k| is_faulty(sheet.frame, booking_on(sheet, *k)))
 }
 
 // As the clerks do: they start from the frame and take each share off what is left.
-fn take_off(sheet: Sheet) -> Foot
-    requires { sheet.count ≤ first_faulty sheet.frame (table_on sheet) }
-    ensures { result ≡ foot_of sheet.frame (table_on sheet) }
+fn take_off(sheet: &Sheet) -> Result<Length, Refusal>
+    requires { sheet.now.count ≤ first_faulty sheet.now.frame (table_on sheet.now) }
+    ensures { result ≡ foot_of sheet.now.frame (table_on sheet.now) }
 {
     let mut left = sheet.frame.ticks;
-    let mut at = 0;
-    while at < sheet.count {
+    for at in 0..sheet.count {
         let share = share_of(sheet.frame, booking_on(sheet, at));
-        if left < share.ticks {
-            return Foot::Over;
-        }
-        left -= share.ticks;
-        at += 1;
+        left = left.checked_sub(share.ticks).ok_or(Refusal::Shares)?;
     }
-    Foot::Left(Length { ticks: left })
+    Ok(Length { ticks: left })
 }
 
-// The booking on line k of a sheet.
-fn booking_on(sheet: Sheet, k: usize) -> Booking
-    ensures { result ≡ (table_on sheet).booking k }
+// The booking on line k of a sheet; behind the last one both numbers are 0.
+fn booking_on(sheet: &Sheet, k: usize) -> Booking
+    ensures { result ≡ (table_on sheet.now).booking k }
 {
-    let bookings = sheet.bookings;
-    line(bookings, k)
-}
-
-// Line k; behind the last one both numbers are 0.
-fn line(bookings: [Booking; sizes::MOST_SERVERS], k: usize) -> Booking
-    ensures { result ≡ get_or bookings k (booked 0 0) }
-{
-    if k < sizes::MOST_SERVERS {
-        return bookings[k];
-    }
-    Booking {
-        budget: Length { ticks: 0 },
-        period: Length { ticks: 0 },
-    }
+    sheet.bookings.get(k).copied().unwrap_or_default()
 }
 
 // The share of a booking that is not faulty. Q is at most T, so it is at most H, and nothing can overflow.
@@ -141,17 +92,9 @@ fn share_of(frame: Length, b: Booking) -> Length
     }
 }
 
-fn is_faulty(h: u64, q: u64, t: u64) -> bool
-    ensures { result ≡ faulty_booking (ticks h) (booked q t) }
+fn is_faulty(frame: Length, b: Booking) -> bool
+    ensures { result ≡ faulty_booking frame b }
 {
-    if t == 0 {
-        return true;
-    }
-    if h % t != 0 {
-        return true;
-    }
-    if q == 0 {
-        return true;
-    }
-    t < q
+    let (h, q, t) = (frame.ticks, b.budget.ticks, b.period.ticks);
+    t == 0 || h % t != 0 || q == 0 || t < q
 }

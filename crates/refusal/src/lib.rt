@@ -5,7 +5,7 @@ ghost use Rattle.std.specs.Prelude.{◌≡◌};
 ghost use Rattle.refusal.specs.Refusals.{number_of, place_of};
 
 // What was wrong. `specs/Refusals.antt` gives each its number and its place.
-#[derive(Clone, Copy)]
+#[derive(Clone, Copy, PartialEq, Eq, Debug)]
 pub enum Refusal {
     // The file is too short or too long.
     FileLength,
@@ -55,16 +55,10 @@ pub fn place(r: Refusal) -> usize
     ensures { result ≡ place_of r }
 {
     match r {
-        Refusal::FileLength => 0,
-        Refusal::Sizes => 0,
-        Refusal::Layout => 0,
-        Refusal::FaultyServer(k) => k,
-        Refusal::Shares => 0,
-        Refusal::FaultyArrival(k) => k,
-        Refusal::BackwardArrival(k) => k,
-        Refusal::LateArrival(k) => k,
-        Refusal::FinishList => 0,
-        Refusal::ClockEnd => 0,
-        Refusal::WaitingWork => 0,
+        Refusal::FaultyServer(k)
+        | Refusal::FaultyArrival(k)
+        | Refusal::BackwardArrival(k)
+        | Refusal::LateArrival(k) => k,
+        _ => 0,
     }
 }

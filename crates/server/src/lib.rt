@@ -8,7 +8,7 @@ ghost use Rattle.server.specs.Server.{fresh, vacant};
 use booking::Booking;
 use clock::{Length, Moment};
 
-#[derive(Clone, Copy)]
+#[derive(Clone, Copy, PartialEq, Eq, Default, Debug)]
 pub struct Server {
     // Q
     pub budget: Length,
@@ -23,7 +23,7 @@ pub struct Server {
 }
 
 // How a server took the work of an arrival: it was idle and woke, with its budget and deadline kept or renewed, or it was busy.
-#[derive(Clone, Copy)]
+#[derive(Clone, Copy, PartialEq, Eq, Debug)]
 pub enum Waking {
     Kept,
     Renewed,
@@ -34,14 +34,10 @@ pub enum Waking {
 pub fn fresh(b: Booking) -> Server
     ensures { result ≡ fresh b }
 {
-    let budget = b.budget;
-    let period = b.period;
     Server {
-        budget,
-        period,
-        remaining: Length { ticks: 0 },
-        deadline: Moment { tick: 0 },
-        waiting: Length { ticks: 0 },
+        budget: b.budget,
+        period: b.period,
+        ..Server::default()
     }
 }
 
@@ -49,9 +45,5 @@ pub fn fresh(b: Booking) -> Server
 pub fn vacant() -> Server
     ensures { result ≡ vacant }
 {
-    let none = Length { ticks: 0 };
-    fresh(Booking {
-        budget: none,
-        period: none,
-    })
+    fresh(Booking::default())
 }

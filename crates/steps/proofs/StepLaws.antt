@@ -1,15 +1,14 @@
 -- What a server within its ranges is to the steps, and that what they work out fits 64 bits.
-use Prim.Native.Nat.{◌+◌, ◌*◌, ◌≤◌, ◌<◌}
-use borrow.Author.Tests.{eqb-false, ne_eqb, ltb-false, lt-ltb, le-ltb}
-use lib.Dec.{eqb, ltb, lit≤}
-use mathlib.Core.Bool.{true, false}
+use Prim.Native.Nat.{◌+◌, ◌≤◌}
+use borrow.Author.Tests.{eqb-false, ne_eqb, ltb-false, le-ltb}
+use lib.Dec.{eqb, ltb}
+use mathlib.Core.Bool.{false}
 use mathlib.Core.Path.{◌≡◌}
-use native.Mathlib.Nat.{le_trans, mul-le-mul}
 use native.Mathlib.Omega.{arith}
-use Rattle.clock.specs.Clock.{last_tick, until}
+use Rattle.clock.specs.Clock.{last_tick}
 use Rattle.clock.specs.declared.Length.{Length}
 use Rattle.clock.specs.declared.Moment.{Moment}
-use Rattle.counting.proofs.TestLaws.{none_of_three, or_true}
+use Rattle.counting.proofs.TestLaws.{none_of_three}
 use Rattle.server.proofs.RangeLaws.{deadline_below, deadline_fits}
 use Rattle.server.specs.Moves.{arrived, served}
 use Rattle.server.specs.Ranges.{Ranged}
@@ -42,21 +41,13 @@ fits_not_beyond s t f =
       le-ltb last_deadline s.deadline.tick f.deadline,
     )
 
--- the cases of step 1
-pub arrival_beyond : (s : Server) (t : Moment) (cost : Length) → beyond s t ≡ true → after_arrival s t cost ≡ s
-unfolding after_arrival
-arrival_beyond s t cost e = rw e
-
-pub arrival_too_much : (s : Server) (t : Moment) (cost : Length) → most_waiting < s.waiting.ticks + cost.ticks → after_arrival s t cost ≡ s
-unfolding after_arrival
-arrival_too_much s t cost h = rw (lt-ltb most_waiting (s.waiting.ticks + cost.ticks) h, or_true (beyond s t))
-
+-- step 1 past its tests
 pub arrival_taken : (s : Server) (t : Moment) (cost : Length) → beyond s t ≡ false → s.waiting.ticks + cost.ticks ≤ most_waiting
     → after_arrival s t cost ≡ arrived s t cost
 unfolding after_arrival
 arrival_taken s t cost e h = rw (e, le-ltb most_waiting (s.waiting.ticks + cost.ticks) h)
 
--- and of step 3
+-- and step 3
 pub record Ready (s : Server) : Type 0 where
   pub works : s.waiting.ticks ≡ 0 → ⊥
   pub has : s.remaining.ticks ≡ 0 → ⊥
@@ -77,21 +68,11 @@ ready_not_unserved s a =
       le-ltb last_tick (s.deadline.tick + s.period.ticks) a.shows,
     )
 
-pub tick_unserved : (s : Server) → unserved s ≡ true → after_tick s ≡ s
-unfolding after_tick
-tick_unserved s e = rw e
-
 pub tick_served : (s : Server) → unserved s ≡ false → after_tick s ≡ served s
 unfolding after_tick
 tick_served s e = rw e
 
--- where nothing is beyond both products of a server that wakes fit
-module _ {s : Server} {t : Moment} (f : Fits s t) where
-  pub ahead_fits : (until t s.deadline).ticks * s.budget.ticks ≤ last_tick
-  ahead_fits = le_trans (mul-le-mul {n₂ = last_deadline} {m₂ = most_frame} (omega (arith, f.deadline)) (omega arith)) (lit≤ tt)
-
-  pub remaining_fits : s.remaining.ticks * s.period.ticks ≤ last_tick
-  remaining_fits = le_trans (mul-le-mul {n₂ = most_frame} {m₂ = most_frame} (omega arith) f.period) (lit≤ tt)
+pub ruleset ticks_served = (not_unserved, tick_served)
 
 -- a server within its ranges is one of those for which the steps are document 01's
 module _ {s : Server} {t : Moment} (r : Ranged t s) (h : t.tick ≤ clock_end) where

@@ -9,34 +9,31 @@ use clock::{Length, Moment};
 use server::Server;
 
 // The server with the work, and renewed where it was idle and its budget and deadline are not kept.
+#[tactic(auto, using(server::proofs::MoveLaws::arrivals))]
 pub(crate) fn arrive(s: Server, now: Moment, cost: Length) -> Server
     requires fits { Fits s now }
     requires ticks_bound { s.waiting.ticks + cost.ticks ≤ most_waiting }
     ensures { result ≡ arrived s now cost }
 {
-    let waiting = Length {
-        ticks: s.waiting.ticks + cost.ticks,
+    let kept = Server {
+        waiting: Length {
+            ticks: s.waiting.ticks + cost.ticks,
+        },
+        ..s
     };
-    let mut kept = s;
-    kept.waiting = waiting;
-    let renewed = refill(kept, clock::later(now, s.period));
-    if s.waiting.ticks != 0 {
-        return kept;
+    if s.waiting.ticks == 0 && is_renewed(s, now) {
+        refill(kept, clock::later(now, s.period))
+    } else {
+        kept
     }
-    if is_renewed(s, now) {
-        return renewed;
-    }
-    kept
 }
 
 // Whether a server that wakes now renews.
+#[tactic(auto, using(server::proofs::MoveLaws::renewals))]
 fn is_renewed(s: Server, now: Moment) -> bool
     requires { Fits s now }
     ensures { result ≡ renews s now }
 {
-    if s.deadline.tick <= now.tick {
-        return true;
-    }
     let ahead = clock::until(now, s.deadline);
-    ahead.ticks * s.budget.ticks <= s.remaining.ticks * s.period.ticks
+    s.deadline <= now || ahead.ticks * s.budget.ticks <= s.remaining.ticks * s.period.ticks
 }

@@ -7,22 +7,15 @@ use clock::{Length, Moment};
 use server::Server;
 
 // Whether a number of the server, or the moment, is beyond those of every dispatcher.
+#[tactic(auto, unfolding(crate::specs::Steps::beyond))]
 pub(crate) fn is_beyond(s: Server, now: Moment) -> bool
     ensures { result ≡ beyond s now }
 {
-    if sizes::CLOCK_END < now.tick {
-        return true;
-    }
-    if sizes::MOST_FRAME < s.period.ticks {
-        return true;
-    }
-    if s.period.ticks < s.budget.ticks {
-        return true;
-    }
-    if s.budget.ticks < s.remaining.ticks {
-        return true;
-    }
-    LAST_DEADLINE < s.deadline.tick
+    sizes::CLOCK_END < now.tick
+        || sizes::MOST_FRAME < s.period.ticks
+        || s.period < s.budget
+        || s.budget < s.remaining
+        || LAST_DEADLINE < s.deadline.tick
 }
 
 // No server of a dispatcher has a later one: the first lies at most T ahead, each tick of the clock postpones by T, and T is at most H.
@@ -32,27 +25,15 @@ const LAST_DEADLINE: u64 = sizes::MOST_FRAME * (sizes::CLOCK_END + 1);
 pub(crate) fn is_too_much(waiting: Length, cost: Length) -> bool
     ensures { result ≡ ltb most_waiting (waiting.ticks + cost.ticks) }
 {
-    if sizes::MOST_WAITING < waiting.ticks {
-        return true;
-    }
-    if sizes::MOST_WAITING - waiting.ticks < cost.ticks {
-        return true;
-    }
-    false
+    sizes::MOST_WAITING < waiting.ticks.saturating_add(cost.ticks)
 }
 
 // Whether a server has no work, no budget left, or a next deadline that 64 bits cannot hold.
+#[tactic(auto, unfolding(crate::specs::Steps::unserved))]
 pub(crate) fn is_unserved(s: Server) -> bool
     ensures { result ≡ unserved s }
 {
-    if s.waiting.ticks == 0 {
-        return true;
-    }
-    if s.remaining.ticks == 0 {
-        return true;
-    }
-    if clock::LAST_TICK - s.period.ticks < s.deadline.tick {
-        return true;
-    }
-    false
+    s.waiting.ticks == 0
+        || s.remaining.ticks == 0
+        || s.deadline.tick.checked_add(s.period.ticks).is_none()
 }

@@ -14,13 +14,11 @@ use clock::{Length, Moment};
 use server::Server;
 
 // Step 1: the server with the work of an arrival, and woken where it was idle.
+#[tactic(auto, using(crate::proofs::StepLaws::not_beyond), unfolding(crate::specs::Steps::after_arrival))]
 pub fn take(s: Server, now: Moment, cost: Length) -> Server
     ensures { result ≡ after_arrival s now cost }
 {
-    if fitting::is_beyond(s, now) {
-        return s;
-    }
-    if fitting::is_too_much(s.waiting, cost) {
+    if fitting::is_beyond(s, now) || fitting::is_too_much(s.waiting, cost) {
         return s;
     }
     arriving::arrive(s, now, cost)
@@ -34,33 +32,36 @@ pub fn is_passed_over(s: Server) -> bool
 }
 
 // Step 3: the server with one tick less to spend and to do, and postponed where that was the last of its budget.
+#[tactic(auto, using(crate::proofs::StepLaws::ticks_served, server::proofs::MoveLaws::services), unfolding(crate::specs::Steps::after_tick))]
 pub fn serve(s: Server) -> Server
     ensures { result ≡ after_tick s }
 {
     if fitting::is_unserved(s) {
         return s;
     }
-    let remaining = Length {
-        ticks: s.remaining.ticks - 1,
+    let less = Server {
+        remaining: Length {
+            ticks: s.remaining.ticks - 1,
+        },
+        waiting: Length {
+            ticks: s.waiting.ticks - 1,
+        },
+        ..s
     };
-    let waiting = Length {
-        ticks: s.waiting.ticks - 1,
-    };
-    let mut less = s;
-    less.remaining = remaining;
-    less.waiting = waiting;
-    if remaining.ticks == 0 {
-        return refill(less, clock::later(s.deadline, s.period));
+    if less.remaining.ticks == 0 {
+        refill(less, clock::later(s.deadline, s.period))
+    } else {
+        less
     }
-    less
 }
 
 // What a server that is renewed and one that is postponed have in common: a full budget up to another deadline.
-fn refill(mut s: Server, deadline: Moment) -> Server
+fn refill(s: Server, deadline: Moment) -> Server
     ensures { result ≡ holding s s.budget deadline s.waiting }
 {
-    let budget = s.budget;
-    s.remaining = budget;
-    s.deadline = deadline;
-    s
+    Server {
+        remaining: s.budget,
+        deadline,
+        ..s
+    }
 }

@@ -1,42 +1,32 @@
 -- `booking::take_off` meets its promise: after so many turns what is left and as many shares are the frame.
-use Prim.Native.Nat.{◌-◌}
-use mathlib.Core.Path.{sym, ◌∙◌, ap}
-use native.Mathlib.Nat.{le_antisymm}
+use Prim.Native.Nat.{◌<◌}
+use mathlib.Core.Path.{◌∙◌, ap}
 use native.Mathlib.Omega.{arith}
 use Rattle.booking.specs.Share.{faulty_booking}
 use Rattle.booking.specs.Sheet.{table_on}
 use Rattle.booking.proofs.AdmissionLaws.{none_faulty}
-use Rattle.booking.proofs.SheetLaws.{left_first, left_next, left_over, left_last}
+use Rattle.booking.proofs.SheetLaws.{left_first, left_next, left_over}
 use Rattle.booking.proofs.take_off.Goals as goal
 
 pub loop-at-init : goal.loop-at-init
-loop-at-init c = (omega arith, left_first c.args.sheet.frame (table_on c.args.sheet))
+loop-at-init c = left_first c.args.sheet.now.frame (table_on c.args.sheet.now)
 
 pub share_of-share-requires : goal.share_of-share-requires
 share_of-share-requires c =
-    let sheet = c.args.sheet in
+    let sheet = c.args.sheet.now in
     ap (faulty_booking sheet.frame) c.booking_on.ensures
     ∙ none_faulty sheet.frame (table_on sheet) c.requires c.loop-at.at c.loop-at-test.true
 
-pub returns-then-left-share : goal.returns-then-left-share
-returns-then-left-share c =
-    sym
-    (left_over c.args.sheet.frame (table_on c.args.sheet) c.requires c.loop-at-test.true
-    c.booking_on.ensures
-    c.share_of-share.ensures
-    c.if-left-share.true
-    c.loop-at.invariant.1)
+pub returns-in_err-left : goal.returns-in_err-left
+returns-in_err-left c =
+    let sheet = c.args.sheet.now in
+    let short : c.loop-at.left < c.share_of-share.result.ticks = omega (arith, rw c.in_err-left.ensures.ok_part at c.checked_sub.ensures) in
+    let foot = left_over sheet.frame (table_on sheet) c.requires c.loop-at-test.true c.booking_on.ensures c.share_of-share.ensures short c.loop-at.invariant in
+    grind (arith, foot, c.from_residual.ensures, c.in_err-left.ensures.value)
 
 pub loop-at-preserved : goal.loop-at-preserved
 loop-at-preserved c =
-    let sheet = c.args.sheet in (
-      omega arith,
-      left_next sheet.frame (table_on sheet) c.booking_on.ensures c.share_of-share.ensures
-          (omega (arith, c.if-left-share.false))
-          c.loop-at.invariant.1,
-    )
-
-pub returns : goal.returns
-returns c =
-    let loop = c.loop-at in
-    sym (left_last c.args.sheet.frame (table_on c.args.sheet) c.requires (le_antisymm loop.invariant.0 c.loop-at-test.false) loop.invariant.1)
+    let sheet = c.args.sheet.now in
+    let left = rw c.in_ok-left.ensures.ok_part at c.checked_sub.ensures in
+    rw left.1
+    (left_next sheet.frame (table_on sheet) c.booking_on.ensures c.share_of-share.ensures left.0 c.loop-at.invariant)
