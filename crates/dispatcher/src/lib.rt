@@ -34,7 +34,7 @@ pub struct Reply<A> {
 }
 
 // What a tick went to.
-#[derive(Clone, Copy)]
+#[derive(Clone, Copy, PartialEq, Eq, Debug)]
 pub enum Turn {
     Idle,
     // The server that ran, the deadline that it ran under, and whether that tick postponed it.

@@ -21,7 +21,7 @@ pub(crate) fn pick(d: Dispatcher) -> Option<usize>
     };
     for (i, s) in d.servers[..d.count].iter().enumerate() {
         let at = due(*s);
-        if at.tick < least.tick {
+        if at < least {
             best = Some(i);
             least = at;
         }
