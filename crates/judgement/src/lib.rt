@@ -38,8 +38,7 @@ fn judge_arrivals(file: &[u8], h: Header, places: usize) -> Verdict
 {
     let arrivals = h.arrivals.count;
     let mut before = 0;
-    let mut k = 0;
-    while k < arrivals {
+    for k in 0..arrivals {
         let a = listing::arrival_of(file, h, k);
         let now = a.moment.tick;
         let faulty = arrival::is_faulty(h.servers.count, a.server, a.cost);
@@ -53,7 +52,6 @@ fn judge_arrivals(file: &[u8], h: Header, places: usize) -> Verdict
             return Verdict::Refused(Refusal::LateArrival(k));
         }
         before = now;
-        k += 1;
     }
     if places < arrivals {
         return Verdict::Refused(Refusal::FinishList);
@@ -65,40 +63,25 @@ fn judge_arrivals(file: &[u8], h: Header, places: usize) -> Verdict
 fn is_length_out_of_range(bytes: usize) -> bool
     ensures { result ≡ length_out_of_range bytes }
 {
-    if bytes < sizes::HEADER_BYTES {
-        return true;
-    }
-    sizes::MOST_FILE < bytes
+    bytes < sizes::HEADER_BYTES || sizes::MOST_FILE < bytes
 }
 
 // The test for 2.
 fn is_size_out_of_range(h: Header) -> bool
     ensures { result ≡ sizes_out_of_range h }
 {
-    if h.frame.ticks < 1 {
-        return true;
-    }
-    if sizes::MOST_FRAME < h.frame.ticks {
-        return true;
-    }
-    if sizes::CLOCK_END < h.horizon.tick {
-        return true;
-    }
-    if sizes::MOST_SERVERS < h.servers.count {
-        return true;
-    }
-    sizes::MOST_ARRIVALS < h.arrivals.count
+    h.frame.ticks < 1
+        || sizes::MOST_FRAME < h.frame.ticks
+        || sizes::CLOCK_END < h.horizon.tick
+        || sizes::MOST_SERVERS < h.servers.count
+        || sizes::MOST_ARRIVALS < h.arrivals.count
 }
 
 // The test for 3.
 fn is_layout_broken(h: Header, bytes: usize) -> bool
     ensures { result ≡ layout_broken h bytes }
 {
-    if h.servers.offset < sizes::HEADER_BYTES {
-        return true;
-    }
-    if listing::bookings_beyond(h, h.arrivals.offset) {
-        return true;
-    }
-    listing::arrivals_beyond(h, bytes)
+    h.servers.offset < sizes::HEADER_BYTES
+        || listing::bookings_beyond(h, h.arrivals.offset)
+        || listing::arrivals_beyond(h, bytes)
 }

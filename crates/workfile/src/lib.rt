@@ -40,6 +40,7 @@ pub fn header_of(file: &[u8]) -> Header
 {
     let frame = u64::from(word_at(file, 0));
     let horizon = u64::from(word_at(file, 4));
+    // A widening by `as`, here and below, has no other form: `usize` is made `From` 16 bits at most.
     let servers = word_at(file, 8) as usize;
     let servers_from = word_at(file, 12) as usize;
     let arrivals = word_at(file, 16) as usize;
@@ -102,6 +103,7 @@ impl Record for Booking {
     ghost behind = { λ file at h. unfold booking_at in Prim.rw (word_behind file at h, word_behind file (at + 4) (Prim.omega arith)) };
 }
 
+// An arrival record.
 impl Record for Arrival {
     const BYTES: usize = sizes::ARRIVAL_BYTES;
 
