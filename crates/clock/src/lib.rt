@@ -5,31 +5,27 @@
 ghost use Rattle.std.specs.Prelude.{◌≡◌};
 ghost use Rattle.clock.specs.Clock.{later, until, up_to_last};
 
-// A place on the clock, as a deadline.
-#[derive(Clone, Copy)]
+// A place on the clock, as a deadline. The earlier of two is the lesser.
+#[derive(Clone, Copy, PartialEq, Eq, PartialOrd, Ord, Default, Debug)]
 pub struct Moment {
     pub tick: u64,
 }
 
-// An amount of work or time, as a budget.
-#[derive(Clone, Copy)]
+// An amount of work or time, as a budget. The shorter of two is the lesser.
+#[derive(Clone, Copy, PartialEq, Eq, PartialOrd, Ord, Default, Debug)]
 pub struct Length {
     pub ticks: u64,
 }
 
 // The last moment that 64 bits can hold. No dispatcher's clock or deadline comes near it.
-pub const LAST_TICK: u64 = 18446744073709551615;
+pub const LAST_TICK: u64 = u64::MAX;
 
 // The moment that lies `by` after `from`, or the last one that 64 bits can hold where that is beyond it.
 pub fn later(from: Moment, by: Length) -> Moment
     ensures { result ≡ up_to_last (later from by) }
 {
-    if by.ticks <= LAST_TICK - from.tick {
-        Moment {
-            tick: from.tick + by.ticks,
-        }
-    } else {
-        Moment { tick: LAST_TICK }
+    Moment {
+        tick: from.tick.saturating_add(by.ticks),
     }
 }
 
@@ -37,11 +33,7 @@ pub fn later(from: Moment, by: Length) -> Moment
 pub fn until(from: Moment, to: Moment) -> Length
     ensures { result ≡ until from to }
 {
-    if from.tick < to.tick {
-        Length {
-            ticks: to.tick - from.tick,
-        }
-    } else {
-        Length { ticks: 0 }
+    Length {
+        ticks: to.tick.saturating_sub(from.tick),
     }
 }
