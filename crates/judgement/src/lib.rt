@@ -7,6 +7,7 @@ ghost use Rattle.workfile.specs.Work.{work_under};
 ghost use Rattle.judgement.specs.Judgement.{length_out_of_range, sizes_out_of_range, layout_broken, judged};
 ghost use Rattle.judgement.specs.Working.Arrivals.{list_judged};
 
+use clock::Moment;
 use refusal::{Refusal, Verdict};
 use workfile::Header;
 
@@ -37,10 +38,10 @@ fn judge_arrivals(file: &[u8], h: Header, places: usize) -> Verdict
     ensures { on_paper result ≡ list_judged (work_under h file.now) places }
 {
     let arrivals = h.arrivals.count;
-    let mut before = 0;
+    let mut before = Moment::default();
     for k in 0..arrivals {
         let a = listing::arrival_of(file, h, k);
-        let now = a.moment.tick;
+        let now = a.moment;
         let faulty = arrival::is_faulty(h.servers.count, a.server, a.cost);
         if faulty {
             return Verdict::Refused(Refusal::FaultyArrival(k));
@@ -48,7 +49,7 @@ fn judge_arrivals(file: &[u8], h: Header, places: usize) -> Verdict
         if now < before {
             return Verdict::Refused(Refusal::BackwardArrival(k));
         }
-        if h.horizon.tick <= now {
+        if h.horizon <= now {
             return Verdict::Refused(Refusal::LateArrival(k));
         }
         before = now;

@@ -4,4 +4,4 @@ use Rattle.judgement.proofs.PassedLaws.{Passed}
 use Rattle.judgement.proofs.judge_arrivals.Given as goal
 
 abbrev pub invariant-loop-k : goal.invariant-loop-k
-invariant-loop-k l = Passed (work_under l.h l.file) l.k l.before
+invariant-loop-k l = Passed (work_under l.h l.file) l.k l.before.tick
