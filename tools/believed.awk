@@ -159,6 +159,13 @@ function read_rt(file,    text, at, indent, state, from, id) {
                 own[file, "declared." name[id]] = id
                 add_piece(id, "type", text)
                 if (text !~ /;$/) state = "type"
+            } else if (match(text, /^(pub([(][a-z]+[)])? )?trait /) || (match(text, /^impl(<[^>]*>)? /) && text ~ / for [A-Za-z0-9]+ [{]$/)) {
+                # A trait and its impl go by the ghost members above the first function: behind that stand laws, which are proved.
+                name_here = word_from(text, RLENGTH + 1)
+                if (text ~ /^impl/) { sub(/.* for /, "", text); name_here = word_from(text, 1) name_here }
+                id = thing(file, at, "type", name_here)
+                own[file, "declared." name_here] = id
+                state = "ghosts"
             } else if (match(text, /^(pub([(][a-z]+[)])? )?(extern [^ ]* )?fn /)) {
                 id = thing(file, at, "function", word_from(text, RLENGTH + 1))
                 public[id] = text ~ /^pub (extern|fn)/
@@ -166,6 +173,11 @@ function read_rt(file,    text, at, indent, state, from, id) {
                 add_piece(id, "function", text)
                 state = "function"
             }
+        } else if (state == "ghosts") {
+            if (text ~ /^ghost /) { size[id]++; sub(/^ghost +[A-Za-z_]+ *[:=]/, "", text); add_piece(id, "ghost", text) }
+            else if (text ~ /^fn / || (indent == from && text ~ /^[}]/)) state = text ~ /^fn .*[^;{]$/ ? "method" : ""
+        } else if (state == "method") {
+            if (text ~ /[;{]$/) state = ""
         } else {
             size[id]++
             piece[id, 1] = piece[id, 1] " " text
@@ -405,6 +417,7 @@ function follow(id,    k, tok, n, at, how, text) {
             text = at ? substr(text, at) : ""
             gsub(/ (requires|ensures)[*]?( [a-z0-9_]+)? [{]/, " {", text)
             bind("result", 0)
+            bind("self", 0)
         }
         n = tokens(text, tok)
         at = top
@@ -564,7 +577,7 @@ function page(    g) {
     for (; g <= groups; g++) sum(link(title_of[g]), g, g, 0)
     sum(link("Structs and enums"), 1, groups, 1)
     for (g = 1; g <= groups; g++) { print "\n## " title_of[g] "\n\n" words_of[g] "\n"; tell(g, g, 0, 1) }
-    print "\n## Structs and enums\n\nThose of the code that the contracts and all these definitions speak of.\n"
+    print "\n## Structs and enums\n\nThose of the code that the contracts and all these definitions speak of; and of a trait, and of a type with\nit (`BookingRecord`: `Record` for `Booking`), the ghost members.\n"
     tell(1, groups, 1, 1)
 }
 

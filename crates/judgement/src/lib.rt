@@ -7,6 +7,7 @@ ghost use Rattle.workfile.specs.Work.{work_under};
 ghost use Rattle.judgement.specs.Judgement.{length_out_of_range, sizes_out_of_range, layout_broken, judged};
 ghost use Rattle.judgement.specs.Working.Arrivals.{list_judged};
 
+use clock::Moment;
 use refusal::Refusal;
 use workfile::Header;
 
@@ -34,11 +35,10 @@ fn judge_arrivals(file: &[u8], h: Header, places: usize) -> Result<(), Refusal>
     ensures { on_paper result ≡ list_judged (work_under h file.now) places }
 {
     let arrivals = h.arrivals.count;
-    let mut before = 0;
-    let mut k = 0;
-    while k < arrivals {
+    let mut before = Moment::default();
+    for k in 0..arrivals {
         let a = listing::arrival_of(file, h, k);
-        let now = a.moment.tick;
+        let now = a.moment;
         let faulty = arrival::is_faulty(h.servers.count, a.server, a.cost);
         if faulty {
             return Err(Refusal::FaultyArrival(k));
@@ -46,11 +46,10 @@ fn judge_arrivals(file: &[u8], h: Header, places: usize) -> Result<(), Refusal>
         if now < before {
             return Err(Refusal::BackwardArrival(k));
         }
-        if h.horizon.tick <= now {
+        if h.horizon <= now {
             return Err(Refusal::LateArrival(k));
         }
         before = now;
-        k += 1;
     }
     if places < arrivals {
         return Err(Refusal::FinishList);
@@ -62,40 +61,25 @@ fn judge_arrivals(file: &[u8], h: Header, places: usize) -> Result<(), Refusal>
 fn is_length_out_of_range(bytes: usize) -> bool
     ensures { result ≡ length_out_of_range bytes }
 {
-    if bytes < sizes::HEADER_BYTES {
-        return true;
-    }
-    sizes::MOST_FILE < bytes
+    bytes < sizes::HEADER_BYTES || sizes::MOST_FILE < bytes
 }
 
 // The test for 2.
 fn is_size_out_of_range(h: Header) -> bool
     ensures { result ≡ sizes_out_of_range h }
 {
-    if h.frame.ticks < 1 {
-        return true;
-    }
-    if sizes::MOST_FRAME < h.frame.ticks {
-        return true;
-    }
-    if sizes::CLOCK_END < h.horizon.tick {
-        return true;
-    }
-    if sizes::MOST_SERVERS < h.servers.count {
-        return true;
-    }
-    sizes::MOST_ARRIVALS < h.arrivals.count
+    h.frame.ticks < 1
+        || sizes::MOST_FRAME < h.frame.ticks
+        || sizes::CLOCK_END < h.horizon.tick
+        || sizes::MOST_SERVERS < h.servers.count
+        || sizes::MOST_ARRIVALS < h.arrivals.count
 }
 
 // The test for 3.
 fn is_layout_broken(h: Header, bytes: usize) -> bool
     ensures { result ≡ layout_broken h bytes }
 {
-    if h.servers.offset < sizes::HEADER_BYTES {
-        return true;
-    }
-    if listing::bookings_beyond(h, h.arrivals.offset) {
-        return true;
-    }
-    listing::arrivals_beyond(h, bytes)
+    h.servers.offset < sizes::HEADER_BYTES
+        || listing::bookings_beyond(h, h.arrivals.offset)
+        || listing::arrivals_beyond(h, bytes)
 }

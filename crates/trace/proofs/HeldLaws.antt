@@ -1,9 +1,8 @@
 -- What a lent list holds of a trace: its first segments, which have what all have, and add up to no more than all.
-use Prim.Native.Nat.{ℕ, zero, suc, ◌+◌, ◌*◌, ◌≤◌, ◌<◌, min}
-use lib.ListN.{length, get_or, get_or-eq_default}
+use Prim.Native.Nat.{ℕ, zero, suc, ◌+◌, ◌*◌, ◌≤◌, ◌<◌}
+use lib.ListN.{length, get_or}
 use mathlib.Core.List.{List, [], ◌∷◌}
-use mathlib.Core.Path.{◌≡◌, refl, sym, ◌∙◌, ap, ap₂, subst⁻¹}
-use native.Mathlib.Decide.{dec_lt}
+use mathlib.Core.Path.{◌≡◌, refl, ap, ap₂, subst⁻¹}
 use native.Mathlib.Nat.{le_of_suc-le-suc, not-suc-le-zero}
 use native.Mathlib.Omega.{arith}
 use Rattle.counting.proofs.SumLaws.{sum_front}
@@ -12,25 +11,7 @@ use Rattle.trace.specs.declared.Segment.{Segment}
 use Rattle.trace.specs.Segments.{EverySegment}
 use Rattle.trace.proofs.SegmentLaws.{every_at}
 use Rattle.trace.specs.Ticks.{sum_over}
-use Rattle.trace.specs.Written.{segment_in, segment_of, written}
-
--- number n of segment k, read from the first place of the segment or, where that lies behind it, from the end
-read_from : (list : List ℕ) (k n : ℕ) {at a : ℕ} → at ≡ min (length list) (4 * k) → a ≡ get_or list (at + n) 0 → a ≡ get_or list (4 * k + n) 0
-read_from list k n {at} {a} from e = e ∙ go (dec_lt (4 * k + n) (length list))
-  where
-    go : Dec (4 * k + n < length list) → get_or list (at + n) 0 ≡ get_or list (4 * k + n) 0
-    go (yes h) = ap (λ (p : ℕ). get_or list p 0) (omega (arith, from))
-    go (no h) = get_or-eq_default list 0 (omega (arith, from)) ∙ sym (get_or-eq_default list 0 (omega arith))
-
--- four numbers that are read so are segment k
-pub segment_in_read : (list : List ℕ) (k : ℕ) {at a b c d : ℕ} → at ≡ min (length list) (4 * k)
-    → a ≡ get_or list at 0 → b ≡ get_or list (at + 1) 0 → c ≡ get_or list (at + 2) 0 → d ≡ get_or list (at + 3) 0
-    → segment_of a b c d ≡ segment_in list k
-segment_in_read list k {at} {a} from e f g h =
-    rw (read_from list k 1 from f, read_from list k 2 from g, read_from list k 3 from h, start)
-  where
-    start : a ≡ get_or list (4 * k) 0
-    start = read_from list k 0 from (e ∙ ap (λ (p : ℕ). get_or list p 0) (omega arith)) ∙ ap (λ (p : ℕ). get_or list p 0) (omega arith)
+use Rattle.trace.specs.Written.{segment_in, written}
 
 -- segment k stands in the list where it fits
 pub segment_at : (tr : List Segment) (list : List ℕ) (k : ℕ) (d : Segment) → k < length tr → 4 * k + 4 ≤ length list

@@ -1,15 +1,16 @@
 -- One segment more is put behind those that are written.
 use Prim.Native.Nat.{ℕ, suc, ◌+◌, ◌*◌, ◌/◌, ◌≤◌, ◌<◌}
 use borrow.Author.Tests.{le-leb, lt-leb}
-use lib.ListN.{length, set, length-set}
+use lib.ListN.{drop, length, set, take, length-drop, length-set}
 use mathlib.Core.List.{List, [], ◌∷◌, ◌++◌}
 use mathlib.Core.Path.{◌≡◌, refl, sym, ◌∙◌, ap}
 use native.Mathlib.Decide.{dec_lt}
+use native.Mathlib.Nat.{le_of_suc-le-suc, not-suc-le-zero}
 use native.Mathlib.Omega.{arith}
 use Rattle.page.proofs.PageLaws.{added_room, added_then}
-use Rattle.page.specs.Page.{Page, page, added}
+use Rattle.page.specs.Page.{Page, page, added, over}
 use Rattle.trace.specs.declared.Segment.{Segment}
-use Rattle.trace.specs.Written.{written, put}
+use Rattle.trace.specs.Written.{numbers, written, put}
 
 pub written_length : (l : List Segment) (list : List ℕ) → length (written l list) ≡ length list
 unfolding written
@@ -48,6 +49,20 @@ unfolding put
 put_fits k s list fits =
     rw (le-leb (4 * k + 4) (length list) (omega arith))
     (sym (ap (λ (p : Page). p.list) (four_set list (4 * k) s.start.tick s.length.ticks s.server s.deadline.tick (omega arith))))
+
+-- which come to its four numbers laid over them
+over_fits : (m l : List ℕ) → length m ≤ length l → over m l ≡ m ++ drop (length m) l
+unfolding over
+over_fits [] l h = refl
+over_fits (b ∷ m) [] h = absurd (not-suc-le-zero h)
+over_fits (b ∷ m) (a ∷ l) h = ap (◌∷◌ b) (over_fits m l (le_of_suc-le-suc h))
+
+pub put_laid : (k : ℕ) (s : Segment) (list : List ℕ) → k < length list / 4
+    → take (4 * k) list ++ (numbers s ++ drop 4 (drop (4 * k) list)) ≡ put k s list
+unfolding put added
+put_laid k s list fits =
+    rw (le-leb (4 * k + 4) (length list) (omega arith))
+    (ap (λ (l : List ℕ). take (4 * k) list ++ l) (sym (over_fits (numbers s) (drop (4 * k) list) (simp length-drop (omega arith)))))
 
 -- behind four places that are another's
 put_behind : (k : ℕ) (s : Segment) (a b c d : ℕ) (rest : List ℕ)

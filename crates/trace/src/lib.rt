@@ -1,7 +1,7 @@
 // The dispatch trace: segments, and the lent list that holds the first of them.
 #![tactic(auto)]
 
-ghost use Rattle.std.specs.Prelude.{◌*◌, min, length, get_or, ◌≡◌};
+ghost use Rattle.std.specs.Prelude.{get_or, ◌≡◌};
 ghost use Rattle.trace.specs.Written.{put, segment_in};
 
 use clock::{Length, Moment};
@@ -19,16 +19,14 @@ pub struct Segment {
 pub fn write(list: &mut [u64], k: usize, s: Segment)
     ensures { list.new ≡ put k s list.old }
 {
-    let start = s.start.tick;
-    let length = s.length.ticks;
-    let server = s.server;
-    let deadline = s.deadline.tick;
     if k < list.len() / 4 {
         let at = 4 * k;
-        list[at] = start;
-        list[at + 1] = length;
-        list[at + 2] = server as u64;
-        list[at + 3] = deadline;
+        list[at..at + 4].copy_from_slice(&[
+            s.start.tick,
+            s.length.ticks,
+            s.server as u64,
+            s.deadline.tick,
+        ]);
     }
 }
 
@@ -36,7 +34,7 @@ pub fn write(list: &mut [u64], k: usize, s: Segment)
 pub fn segment_at(list: &[u64], k: usize) -> Segment
     ensures { result ≡ segment_in list.now k }
 {
-    let at = place_of(list, k);
+    let at = k.saturating_mul(4).min(list.len());
     let start = number_at(list, at);
     let length = number_at(list, at + 1);
     let server = number_at(list, at + 2) as usize;
@@ -49,22 +47,9 @@ pub fn segment_at(list: &[u64], k: usize) -> Segment
     }
 }
 
-// The first place of segment k, or the end of the list where that lies behind it, so that nothing overflows.
-fn place_of(list: &[u64], k: usize) -> usize
-    ensures { result ≡ min (length list.now) (4 * k) }
-{
-    let end = list.len();
-    if end / 4 < k {
-        return end;
-    }
-    4 * k
-}
-
+// A number of the list, or 0 where that is behind the end.
 fn number_at(list: &[u64], at: usize) -> u64
     ensures { result ≡ get_or list.now at 0 }
 {
-    if at < list.len() {
-        return list[at];
-    }
-    0
+    list.get(at).copied().unwrap_or(0)
 }

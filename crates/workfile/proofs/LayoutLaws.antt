@@ -1,5 +1,5 @@
 -- Laws of the records of a work file: behind the end there is nothing, which counts 0, so that all places there hold the same.
-use Prim.Native.Nat.{ℕ, ◌+◌, ◌≤◌, min}
+use Prim.Native.Nat.{ℕ, ◌≤◌, min}
 use borrow.Author.Tests.{leb-true, leb-false}
 use lib.Dec.{leb}
 use lib.ListN.{length}
@@ -7,23 +7,9 @@ use mathlib.Core.Bool.{Bool, true, false}
 use mathlib.Core.List.{List}
 use mathlib.Core.Path.{◌≡◌, refl, sym, ◌∙◌, ap}
 use native.Mathlib.Omega.{arith}
-use Rattle.booking.specs.Share.{booked}
-use Rattle.clock.specs.Clock.{moment, ticks}
-use Rattle.numbers.proofs.WordLaws.{word_behind}
-use Rattle.workfile.specs.Layout.{booking_at, arrival_at}
-
-pub booking_at_behind : (file : List ℕ) (at : ℕ) → length file ≤ at → booking_at file at ≡ booked 0 0
-unfolding booking_at
-booking_at_behind file at h = rw (word_behind file at h, word_behind file (at + 4) (omega arith))
-
-pub arrival_at_behind : (file : List ℕ) (at : ℕ) → length file ≤ at
-    → arrival_at file at ≡ record { moment = moment 0; server = 0; cost = ticks 0 }
-unfolding arrival_at
-arrival_at_behind file at h =
-    rw (word_behind file at h, word_behind file (at + 4) (omega arith), word_behind file (at + 8) (omega arith))
 
 -- what is the same everywhere behind the end is the same at two places that are one up to the end
-up_to_end : {X : Type 0} (of : List ℕ → ℕ → X) (nothing : X) → ((file : List ℕ) (at : ℕ) → length file ≤ at → of file at ≡ nothing)
+pub up_to_end : {X : Type 0} (of : List ℕ → ℕ → X) (nothing : X) → ((file : List ℕ) (at : ℕ) → length file ≤ at → of file at ≡ nothing)
     → (file : List ℕ) (p q : ℕ) → min (length file) p ≡ min (length file) q → of file p ≡ of file q
 up_to_end of nothing behind file p q same = go (leb (length file) p) refl
   where
@@ -32,9 +18,3 @@ up_to_end of nothing behind file p q same = go (leb (length file) p) refl
         let over = leb-true (length file) p so in
         behind file p over ∙ sym (behind file q (omega (arith, same, over)))
     go false so = ap (of file) (omega (arith, same, leb-false (length file) p so))
-
-pub booking_at_up_to_end : (file : List ℕ) (p q : ℕ) → min (length file) p ≡ min (length file) q → booking_at file p ≡ booking_at file q
-booking_at_up_to_end = up_to_end booking_at _ booking_at_behind
-
-pub arrival_at_up_to_end : (file : List ℕ) (p q : ℕ) → min (length file) p ≡ min (length file) q → arrival_at file p ≡ arrival_at file q
-arrival_at_up_to_end = up_to_end arrival_at _ arrival_at_behind

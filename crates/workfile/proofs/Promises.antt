@@ -1,9 +1,9 @@
--- Each promise of this crate allows one outcome, and asks nothing.
+-- Each promise of this crate allows one outcome, and asks nothing: of `at` the promise of either kind of record.
 use Rattle.promise.specs.AsksNothing.{AsksNothing}
 use Rattle.promise.specs.OneOutcome.{OneOutcome}
 use Rattle.promise.proofs.OneOutcomeLaws.{both_are}
-use Rattle.workfile.proofs.arrival_at.Reads as arrival-at
-use Rattle.workfile.proofs.booking_at.Reads as booking-at
+use Rattle.workfile.proofs.ArrivalRecord.at.Reads as arrival-at
+use Rattle.workfile.proofs.BookingRecord.at.Reads as booking-at
 use Rattle.workfile.proofs.header_of.Reads as header_of
 
 pub header_of_one : OneOutcome header_of.Post

@@ -2,7 +2,13 @@
 // that are read.
 #![tactic(auto)]
 
-ghost use Rattle.std.specs.Prelude.{◌≡◌};
+ghost use Rattle.std.specs.Prelude.{◌≡◌, ◌+◌, ◌≤◌, ℕ, List, length, min};
+ghost use Rattle.std.proofs.Common.{arith, lit≤};
+ghost use Rattle.booking.specs.Share.{booked};
+ghost use Rattle.clock.specs.Clock.{moment, ticks};
+ghost use Rattle.numbers.proofs.WordLaws.{word_behind};
+ghost use Rattle.numbers.specs.Word.{number_at};
+ghost use Rattle.sizes.specs.Sizes.{arrival_bytes, server_bytes};
 ghost use Rattle.workfile.specs.Layout.{header, booking_at, arrival_at};
 
 use arrival::Arrival;
@@ -28,11 +34,13 @@ pub struct Header {
 }
 
 // The header of a file. Of one that is shorter than a header, what is missing counts 0.
+#[tactic(auto, unfolding(crate::specs::Layout::header))]
 pub fn header_of(file: &[u8]) -> Header
     ensures { result ≡ header file.now }
 {
-    let frame = word_at(file, 0) as u64;
-    let horizon = word_at(file, 4) as u64;
+    let frame = u64::from(word_at(file, 0));
+    let horizon = u64::from(word_at(file, 4));
+    // A widening by `as`, here and below, has no other form: `usize` is made `From` 16 bits at most.
     let servers = word_at(file, 8) as usize;
     let servers_from = word_at(file, 12) as usize;
     let arrivals = word_at(file, 16) as usize;
@@ -51,42 +59,81 @@ pub fn header_of(file: &[u8]) -> Header
     }
 }
 
-// The server record that starts at a byte of the file. Behind the end all counts 0, and a place before the end is far below what
-// 64 bits hold.
-pub fn booking_at(file: &[u8], at: usize) -> Booking
-    ensures { result ≡ booking_at file.now at }
-{
-    if at >= file.len() {
-        return Booking {
-            budget: Length { ticks: 0 },
-            period: Length { ticks: 0 },
-        };
-    }
-    let budget = word_at(file, at) as u64;
-    let period = word_at(file, at + 4) as u64;
-    Booking {
-        budget: Length { ticks: budget },
-        period: Length { ticks: period },
-    }
+// A kind of record: how many bytes each has, and what one says that starts at a byte of a file.
+pub trait Record: Copy {
+    const BYTES: usize;
+
+    ghost BYTES: { ℕ };
+
+    ghost read: { List ℕ → ℕ → Self };
+
+    ghost zeros: { Self };
+
+    // The record that starts at a byte of the file. Behind the end all counts 0.
+    fn at(file: &[u8], at: usize) -> Self
+        ensures { result ≡ read file.now at };
+
+    ghost some_bytes: { 1 ≤ BYTES };
+
+    ghost behind: { (file : List ℕ) (at : ℕ) → length file ≤ at → read file at ≡ zeros };
 }
 
-// The arrival record that starts at a byte of the file, with zeros behind the end.
-pub fn arrival_at(file: &[u8], at: usize) -> Arrival
-    ensures { result ≡ arrival_at file.now at }
+// A server record.
+impl Record for Booking {
+    const BYTES: usize = sizes::SERVER_BYTES;
+
+    ghost BYTES = { server_bytes };
+
+    ghost read = { booking_at };
+
+    ghost zeros = { booked 0 0 };
+
+    #[tactic(auto, unfolding(crate::specs::Layout::booking_at))]
+    fn at(file: &[u8], at: usize) -> Booking {
+        let budget = u64::from(word_at(file, at));
+        let period = u64::from(word_further(file, at, 4));
+        Booking {
+            budget: Length { ticks: budget },
+            period: Length { ticks: period },
+        }
+    }
+
+    ghost some_bytes = { lit≤ tt };
+
+    ghost behind = { λ file at h. unfold booking_at in Prim.rw (word_behind file at h, word_behind file (at + 4) (Prim.omega arith)) };
+}
+
+// An arrival record.
+impl Record for Arrival {
+    const BYTES: usize = sizes::ARRIVAL_BYTES;
+
+    ghost BYTES = { arrival_bytes };
+
+    ghost read = { arrival_at };
+
+    ghost zeros = { record { moment = moment 0; server = 0; cost = ticks 0 } };
+
+    #[tactic(auto, unfolding(crate::specs::Layout::arrival_at))]
+    fn at(file: &[u8], at: usize) -> Arrival {
+        let moment = u64::from(word_at(file, at));
+        let server = word_further(file, at, 4) as usize;
+        let cost = u64::from(word_further(file, at, 8));
+        Arrival {
+            moment: Moment { tick: moment },
+            server,
+            cost: Length { ticks: cost },
+        }
+    }
+
+    ghost some_bytes = { lit≤ tt };
+
+    ghost behind = { λ file at h. unfold arrival_at in
+        Prim.rw (word_behind file at h, word_behind file (at + 4) (Prim.omega arith), word_behind file (at + 8) (Prim.omega arith)) };
+}
+
+// The number so many bytes behind a byte of the file. What 64 bits do not hold lies behind the end, as their last number does.
+fn word_further(file: &[u8], at: usize, further: usize) -> u32
+    ensures { result ≡ number_at file.now (at + further) }
 {
-    if at >= file.len() {
-        return Arrival {
-            moment: Moment { tick: 0 },
-            server: 0,
-            cost: Length { ticks: 0 },
-        };
-    }
-    let moment = word_at(file, at) as u64;
-    let server = word_at(file, at + 4) as usize;
-    let cost = word_at(file, at + 8) as u64;
-    Arrival {
-        moment: Moment { tick: moment },
-        server,
-        cost: Length { ticks: cost },
-    }
+    word_at(file, at.saturating_add(further))
 }

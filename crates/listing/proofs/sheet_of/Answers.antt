@@ -1,5 +1,5 @@
 -- `listing::sheet_of` meets its promise: after k turns the first k lines have their bookings.
-use Prim.Native.Nat.{ℕ, ◌-◌, ◌≤◌, ◌<◌}
+use Prim.Native.Nat.{ℕ, ◌≤◌, ◌<◌}
 use mathlib.Core.Path.{◌≡◌}
 use native.Mathlib.Numerals.{add-one}
 use native.Mathlib.Omega.{arith}
@@ -10,13 +10,10 @@ use Rattle.workfile.specs.Work.{work_under}
 use Rattle.listing.proofs.sheet_of.Goals as goal
 
 pub loop-k-init : goal.loop-k-init
-loop-k-init c = (omega arith, filled_none most_servers _ (booked 0 0))
+loop-k-init c = filled_none most_servers _ (booked 0 0)
 
 pub loop-k-preserved : goal.loop-k-preserved
-loop-k-preserved c = (
-  omega arith,
-  rw (add-one, c.loop-k.invariant.1, c.booking_of.ensures) (filled_more most_servers _ (booked 0 0) _ c.loop-k-test.true),
-)
+loop-k-preserved c = rw (add-one, c.loop-k.invariant, c.booking_of.ensures) (filled_more most_servers _ (booked 0 0) _ c.loop-k-test.true)
 
 pub returns : goal.returns
 returns c =
@@ -24,4 +21,4 @@ returns c =
     let read = (work_under given.h given.file.now).table.booking in
     let none : (i : ℕ) → i < most_servers → c.loop-k.k ≤ i → read i ≡ booked 0 0 =
     λ i below behind. let no : ⊥ = omega (arith, c.loop-k-test.false, below, behind) in absurd no in
-    rw (c.loop-k.invariant.1, filled_whole most_servers read (booked 0 0) c.loop-k.k none)
+    rw (c.loop-k.invariant, filled_whole most_servers read (booked 0 0) c.loop-k.k none)

@@ -1,5 +1,4 @@
 -- `listing::sheet_of` meets its promise: after k turns the first k lines have their bookings.
-use Prim.Native.Nat.{◌-◌, ◌≤◌}
 use mathlib.Core.Path.{◌≡◌}
 use Rattle.booking.specs.Share.{booked}
 use Rattle.counting.proofs.PlacesLaws.{filled}
@@ -9,8 +8,4 @@ use Rattle.workfile.specs.Work.{work_under}
 use Rattle.listing.proofs.sheet_of.Given as goal
 
 abbrev pub invariant-loop-k : goal.invariant-loop-k
-invariant-loop-k l =
-    (l.k ≤ most_servers) × (l.bookings ≡ places most_servers (filled (work_under l.h l.file).table.booking (booked 0 0) l.k))
-
-abbrev pub decreases-loop-k : goal.decreases-loop-k
-decreases-loop-k l = most_servers - l.k
+invariant-loop-k l = l.bookings ≡ places most_servers (filled (work_under l.h l.file).table.booking (booked 0 0) l.k)
