@@ -1,5 +1,5 @@
 // Whole budgets in one go: a server that has just been postponed and still wins goes on with the next budget.
-ghost use Rattle.std.specs.Prelude.{◌≡◌, suc, ◌+◌, ◌*◌, ◌≤◌, ◌<◌, eqb, cond};
+ghost use Rattle.std.specs.Prelude.{◌≡◌, suc, ◌+◌, ◌*◌, ◌≤◌, ◌<◌};
 ghost use Rattle.books.proofs.Book.{segment_book};
 ghost use Rattle.books.proofs.Budgets.Budgets.{Able, Budgets, BudgetsFrom, Further, budgets_on, turned_on};
 ghost use Rattle.books.proofs.Budgets.BudgetLaws.{RisesBelow};
@@ -9,7 +9,7 @@ ghost use Rattle.books.proofs.Tree.Winners.{Leaf, tree_of};
 ghost use Rattle.clock.specs.Clock.{last_tick, ticks};
 ghost use Rattle.sizes.specs.Sizes.{clock_end};
 
-use crate::serving::{less, lesser};
+use crate::serving::less;
 use crate::{stretches, tree};
 use books::Current;
 use clock::{Length, Moment};
@@ -23,29 +23,20 @@ pub(crate) fn further(keys: &[u64; 128], leaves: usize, i: usize, s: Server, spa
     ensures { Further (tree_of leaves keys.now) i s spare.ticks result }
 {
     let budget = s.budget.ticks;
-    let period = s.period.ticks;
     let own = s.deadline.tick * 64 + i as u64;
     // The least key of the half of the servers that i is not of. Asked first, as it nearly always ends as it did the time before: where
     // many are at work, that half mostly has an earlier key.
-    if keys[tree::other_half(leaves, i)] <= own {
-        return 0;
-    }
-    if s.remaining.ticks < budget {
-        return 0;
-    }
-    if spare.ticks <= budget {
+    if keys[tree::other_half(leaves, i)] <= own
+        || s.remaining.ticks < budget
+        || spare.ticks <= budget
+    {
         return 0;
     }
     let rival = tree::rival(keys, leaves, i);
     if rival <= own {
         return 0;
     }
-    let wins = rises(own, 64 * period, rival);
-    let fits = fits_in(budget, spare.ticks);
-    if wins < fits {
-        return wins;
-    }
-    fits
+    rises(own, 64 * s.period.ticks, rival).min(fits_in(budget, spare.ticks))
 }
 
 // How many of the numbers that rise from `from` on by `step` are below a bound.
@@ -71,12 +62,11 @@ pub(crate) fn budgets_on(s: Server, n: u64) -> Server
     requires { Budgets s n }
     ensures { result ≡ budgets_on s n }
 {
-    let waiting = less(s.waiting, times(n, s.budget));
-    let deadline = clock::later(s.deadline, times(n, s.period));
-    let mut next = s;
-    next.waiting = waiting;
-    next.deadline = deadline;
-    next
+    Server {
+        waiting: less(s.waiting, times(n, s.budget)),
+        deadline: clock::later(s.deadline, times(n, s.period)),
+        ..s
+    }
 }
 
 // A length so many times.
@@ -95,7 +85,7 @@ pub(crate) fn pass(list: &mut [u64], c: Current, t: Moment, i: usize, s: Server,
     requires bounded { Bounded (clock_end + 1) t.tick (segment_book list.old c) }
     ensures { segment_book list.new result ≡ turned_on (segment_book list.old c) t.tick i s n }
 {
-    let written = lesser(n, until_full(list.len() / 4, c.count));
+    let written = n.min(until_full(list.len() / 4, c.count));
     let current = pass_each(list, c, t, i, s, written);
     if written == n {
         return current;
@@ -111,10 +101,7 @@ fn until_full(held: usize, ended: usize) -> u64
     ensures lower_bound { 1 ≤ result }
     ensures held_bound { held < ended + result }
 {
-    if held <= ended {
-        return 1;
-    }
-    (held - ended) as u64 + 1
+    held.saturating_sub(ended) as u64 + 1
 }
 
 // The stretch of the budget behind n others, when so many segments have ended.
@@ -123,14 +110,11 @@ fn last_of(t: Moment, i: usize, s: Server, n: u64, ended: usize) -> Current
     ensures { result ≡ last_of t.tick i s n ended }
 {
     let last = budgets_on(s, n);
-    let start = clock::later(t, times(n, s.budget));
-    let deadline = last.deadline;
-    let waits = less(last.waiting, s.budget);
     Current {
-        start,
+        start: clock::later(t, times(n, s.budget)),
         server: i,
-        deadline,
-        waits,
+        deadline: last.deadline,
+        waits: less(last.waiting, s.budget),
         count: ended,
     }
 }
@@ -145,24 +129,12 @@ fn pass_each(list: &mut [u64], c: Current, t: Moment, i: usize, s: Server, n: u6
     let mut at = t;
     let mut deadline = s.deadline;
     let mut waiting = s.waiting;
-    let mut k = 0;
-    while k < n {
+    for _ in 0..n {
         current = stretches::turn_to(list, current, at, i, deadline);
         waiting = less(waiting, s.budget);
         current.waits = waiting;
         at = clock::later(at, s.budget);
         deadline = clock::later(deadline, s.period);
-        k += 1;
     }
     current
-}
-
-// One where the budget is spent.
-pub(crate) fn spent(by: Length, remaining: Length) -> u64
-    ensures { result ≡ cond (eqb by.ticks remaining.ticks) 1 0 }
-{
-    if by.ticks == remaining.ticks {
-        return 1;
-    }
-    0
 }

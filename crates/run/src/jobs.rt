@@ -15,11 +15,7 @@ pub(crate) fn open_all(finishes: &mut [u32], m: usize)
     requires { m ≤ length finishes.old }
     ensures { finishes.new ≡ finish_list m (λ k. is_open) finishes.old }
 {
-    let mut k = 0;
-    while k < m {
-        finishes[k] = sizes::OPEN_JOB;
-        k += 1;
-    }
+    finishes[..m].fill(sizes::OPEN_JOB);
 }
 
 // The first job of each server, and the job behind each, from the last arrival to the first. Where there is none it is the count of
@@ -34,9 +30,7 @@ pub(crate) fn line_up(
     ensures { Lined (work file.now) 0 first.new behind.new }
 {
     let h = workfile::header_of(file);
-    let mut k = h.arrivals.count;
-    while k > 0 {
-        k -= 1;
+    for k in (0..h.arrivals.count).rev() {
         let a = reading::arrival_of(file, k);
         let i = a.server;
         behind[k] = first[i];
@@ -59,8 +53,7 @@ pub(crate) fn left_of(
     if rest > 0 {
         return Length { ticks: rest };
     }
-    let a = reading::arrival_of(file, job[i]);
-    let cost = a.cost;
+    let cost = reading::arrival_of(file, job[i]).cost;
     left[i] = cost.ticks;
     cost
 }

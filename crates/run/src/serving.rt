@@ -1,5 +1,5 @@
 // A server through several ticks at once.
-ghost use Rattle.std.specs.Prelude.{◌≡◌, ◌+◌, ◌-◌, ◌*◌, ◌≤◌, min};
+ghost use Rattle.std.specs.Prelude.{◌≡◌, ◌+◌, ◌-◌, ◌*◌, ◌≤◌};
 ghost use Rattle.books.proofs.Spell.Planned.{MayServe};
 ghost use Rattle.books.proofs.Tree.Keys.{key_of};
 ghost use Rattle.clock.specs.Clock.{last_tick, ticks};
@@ -13,19 +13,22 @@ pub(crate) fn serve(s: Server, by: Length) -> Server
     requires { MayServe s by.ticks }
     ensures { result ≡ served_for s by.ticks }
 {
-    let budget = s.budget;
     let remaining = less(s.remaining, by);
     let waiting = less(s.waiting, by);
-    let postponed = clock::later(s.deadline, s.period);
-    let mut next = s;
-    next.waiting = waiting;
     if remaining.ticks == 0 {
-        next.remaining = budget;
-        next.deadline = postponed;
+        Server {
+            remaining: s.budget,
+            deadline: clock::later(s.deadline, s.period),
+            waiting,
+            ..s
+        }
     } else {
-        next.remaining = remaining;
+        Server {
+            remaining,
+            waiting,
+            ..s
+        }
     }
-    next
 }
 
 // The key of server i in the winner tree.
@@ -34,9 +37,10 @@ pub(crate) fn key_of(s: Server, i: usize) -> u64
     ensures { result ≡ key_of s i }
 {
     if steps::is_passed_over(s) {
-        return clock::LAST_TICK;
+        clock::LAST_TICK
+    } else {
+        s.deadline.tick * 64 + i as u64
     }
-    s.deadline.tick * 64 + i as u64
 }
 
 // What is left of a length when a part of it is gone.
@@ -47,30 +51,4 @@ pub(crate) fn less(all: Length, part: Length) -> Length
     Length {
         ticks: all.ticks - part.ticks,
     }
-}
-
-// The shortest of three lengths.
-pub(crate) fn shortest(a: Length, b: Length, c: Length) -> Length
-    ensures { result ≡ ticks (min (min a.ticks b.ticks) c.ticks) }
-{
-    shorter(shorter(a, b), c)
-}
-
-// The shorter of two lengths.
-pub(crate) fn shorter(a: Length, b: Length) -> Length
-    ensures { result ≡ ticks (min a.ticks b.ticks) }
-{
-    Length {
-        ticks: lesser(a.ticks, b.ticks),
-    }
-}
-
-// The lesser of two numbers.
-pub(crate) fn lesser(a: u64, b: u64) -> u64
-    ensures { result ≡ min a b }
-{
-    if a < b {
-        return a;
-    }
-    b
 }

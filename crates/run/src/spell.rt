@@ -14,7 +14,7 @@ use books::{Current, Gone, PlannedSpell};
 use clock::{Length, Moment};
 use server::Server;
 
-// Server i goes for a spell from t on, with `rest` of its job left, and `room` to go at most.
+// Server i goes for a spell from t on, for so long at most.
 pub(crate) fn go(
     list: &mut [u64],
     keys: &mut [u64; 128],
@@ -25,70 +25,59 @@ pub(crate) fn go(
     t: Moment,
     i: usize,
     s: Server,
-    rest: Length,
-    room: Length,
+    most: Length,
 ) -> Gone
-    requires { MayGo t.tick i s rest.ticks room.ticks (turn_book (tree_of leaves keys.old) postponed.old interrupted.old (segment_book list.old c)) }
-    ensures { SpellLeaves t.tick i s rest.ticks room.ticks (turn_book (tree_of leaves keys.old) postponed.old interrupted.old (segment_book list.old c)) (turn_book (tree_of leaves keys.new) postponed.new interrupted.new (segment_book list.new result.current)) result }
+    requires { MayGo t.tick i s most.ticks (turn_book (tree_of leaves keys.old) postponed.old interrupted.old (segment_book list.old c)) }
+    ensures { SpellLeaves t.tick i s most.ticks (turn_book (tree_of leaves keys.old) postponed.old interrupted.old (segment_book list.old c)) (turn_book (tree_of leaves keys.new) postponed.new interrupted.new (segment_book list.new result.current)) result }
 {
-    let p = plan(keys, leaves, i, s, rest, room);
+    let p = plan(keys, leaves, i, s, most);
     let current = pass_through(list, c, t, i, s.deadline, p);
     // Only here: the budgets behind the ticks are this server's own, and idle time interrupts nobody.
     stretches::interrupt(interrupted, c, i);
     let root = tree::set_winner(keys, leaves, i, p.key);
     postponed[i] += p.postponed;
-    let server = p.last;
-    let gone = p.gone;
     Gone {
-        server,
+        server: p.last,
         current,
-        gone,
+        gone: p.gone,
         root,
     }
 }
 
 // What the spell will be: its ticks and budgets, and the server, its key and its counts after them.
-fn plan(
-    keys: &[u64; 128],
-    leaves: usize,
-    i: usize,
-    s: Server,
-    rest: Length,
-    room: Length,
-) -> PlannedSpell
-    requires { MayPlan (tree_of leaves keys.now) i s rest.ticks room.ticks }
-    ensures { Planned (tree_of leaves keys.now) i s rest.ticks room.ticks result }
+fn plan(keys: &[u64; 128], leaves: usize, i: usize, s: Server, most: Length) -> PlannedSpell
+    requires { MayPlan (tree_of leaves keys.now) i s most.ticks }
+    ensures { Planned (tree_of leaves keys.now) i s most.ticks result }
 {
-    let ticks = serving::shortest(s.remaining, rest, room);
+    let ticks = Length {
+        ticks: s.remaining.ticks.min(most.ticks),
+    };
     let after = serving::serve(s, ticks);
-    let spare = serving::shorter(serving::less(rest, ticks), serving::less(room, ticks));
+    let spare = serving::less(most, ticks);
     let budgets = budgets::further(keys, leaves, i, after, spare);
-    let spent = budgets::spent(ticks, s.remaining);
+    let spent = u64::from(ticks.ticks == s.remaining.ticks);
     // Mostly there are none, and then there is nothing to multiply.
     if budgets == 0 {
-        let key = serving::key_of(after, i);
         return PlannedSpell {
             ticks,
             after,
             budgets: 0,
             last: after,
-            key,
+            key: serving::key_of(after, i),
             gone: ticks,
             postponed: spent,
         };
     }
     let last = budgets::budgets_on(after, budgets);
-    let key = serving::key_of(last, i);
-    let gone = Length {
-        ticks: ticks.ticks + budgets * s.budget.ticks,
-    };
     PlannedSpell {
         ticks,
         after,
         budgets,
         last,
-        key,
-        gone,
+        key: serving::key_of(last, i),
+        gone: Length {
+            ticks: ticks.ticks + budgets * s.budget.ticks,
+        },
         postponed: spent + budgets,
     }
 }
@@ -106,12 +95,16 @@ fn pass_through(
     requires bounded { Bounded clock_end t.tick (segment_book list.old c) }
     ensures { segment_book list.new result ≡ after_spell (segment_book list.old c) t.tick i deadline p }
 {
-    let ticks = p.ticks;
-    let budgets = p.budgets;
-    let after = p.after;
-    let waits = after.waiting;
-    let mut current = stretches::turn_to(list, c, t, i, deadline);
-    current.waits = waits;
+    let PlannedSpell {
+        ticks,
+        after,
+        budgets,
+        ..
+    } = p;
+    let current = Current {
+        waits: after.waiting,
+        ..stretches::turn_to(list, c, t, i, deadline)
+    };
     if budgets == 0 {
         return current;
     }

@@ -12,16 +12,13 @@ pub(crate) fn start(file: &[u8]) -> Dispatcher
     ensures { result ≡ at_moment (work file.now) 0 }
 {
     let h = workfile::header_of(file);
-    let frame = h.frame;
     let count = h.servers.count;
     let mut servers = [server::vacant(); sizes::MOST_SERVERS];
-    let mut k = 0;
-    while k < count {
+    for k in 0..count {
         servers[k] = server::fresh(listing::booking_of(file, h, k));
-        k += 1;
     }
     Dispatcher {
-        frame,
+        frame: h.frame,
         count,
         clock: Moment { tick: 0 },
         servers,

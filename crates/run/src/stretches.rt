@@ -45,7 +45,6 @@ pub(crate) fn turn_to(
     requires { MayEnd t.tick c }
     ensures { segment_book list.new result ≡ turned (segment_book list.old c) t.tick i deadline }
 {
-    let waits = c.waits;
     if goes_on(c, i, deadline) {
         return c;
     }
@@ -54,8 +53,8 @@ pub(crate) fn turn_to(
         start: t,
         server: i,
         deadline,
-        waits,
         count,
+        ..c
     }
 }
 
@@ -63,10 +62,7 @@ pub(crate) fn turn_to(
 fn goes_on(c: Current, i: usize, deadline: Moment) -> bool
     ensures { result ≡ stays c i deadline }
 {
-    if c.server == i {
-        return c.deadline.tick == deadline.tick;
-    }
-    false
+    c.server == i && c.deadline.tick == deadline.tick
 }
 
 // Server i has the next tick: one interruption more of the stretch's server, where it is interrupted by that.
@@ -74,9 +70,8 @@ pub(crate) fn interrupt(interrupted: &mut [u64; sizes::MOST_SERVERS], c: Current
     requires { get_or interrupted.old c.server 0 < last_tick }
     ensures { interrupted.new ≡ interruptions_after c i interrupted.old }
 {
-    let server = c.server;
-    if summary::interrupted_by(server, c.waits, i) {
-        interrupted[server] += 1;
+    if summary::interrupted_by(c.server, c.waits, i) {
+        interrupted[c.server] += 1;
     }
 }
 
@@ -86,10 +81,13 @@ pub(crate) fn end_segment(list: &mut [u64], c: Current, t: Moment) -> usize
     ensures value { result ≡ count_after c }
     ensures list_after { list.new ≡ list_after c t.tick list.old }
 {
-    let start = c.start;
-    let server = c.server;
-    let deadline = c.deadline;
-    let count = c.count;
+    let Current {
+        start,
+        server,
+        deadline,
+        count,
+        ..
+    } = c;
     if sizes::MOST_SERVERS <= server {
         return count;
     }

@@ -12,7 +12,7 @@ ghost use Rattle.workfile.specs.Work.{work};
 
 use crate::{jobs, reading, spell, starting, stretches, taking, tree};
 use books::{Standing, Travelled};
-use clock::Moment;
+use clock::{Length, Moment};
 
 // Every job is opened, those of each server are lined up, and the run goes from its start to the horizon, where its last segment ends.
 pub(crate) fn travel(file: &[u8], list: &mut [u64], finishes: &mut [u32]) -> Travelled
@@ -61,13 +61,11 @@ fn from_start(file: &[u8]) -> Standing
     requires { Accepted file.now }
     ensures { result ≡ record { moment = moment 0; taken = 0; dispatcher = at_moment (work file.now) 0; current = at_rest } }
 {
-    let dispatcher = starting::start(file);
-    let current = stretches::at_rest();
     Standing {
         moment: Moment { tick: 0 },
         taken: 0,
-        dispatcher,
-        current,
+        dispatcher: starting::start(file),
+        current: stretches::at_rest(),
     }
 }
 
@@ -104,8 +102,7 @@ fn to_moment(
         while next.tick <= t.tick {
             let a = reading::arrival_of(file, j);
             let i = a.server;
-            let taken = taking::take(keys, leaves, i, d.servers[i], d.clock, a.cost);
-            d.servers[i] = taken;
+            d.servers[i] = taking::take(keys, leaves, i, d.servers[i], d.clock, a.cost);
             j += 1;
             next = reading::next_stop(file, until, j);
             root = keys[1];
@@ -117,6 +114,10 @@ fn to_moment(
         } else {
             let i = (root % 64) as usize;
             let rest = jobs::left_of(file, job, left, i);
+            let room = clock::until(t, next);
+            let most = Length {
+                ticks: rest.ticks.min(room.ticks),
+            };
             let g = spell::go(
                 list,
                 keys,
@@ -127,17 +128,14 @@ fn to_moment(
                 t,
                 i,
                 d.servers[i],
-                rest,
-                clock::until(t, next),
+                most,
             );
-            let gone = g.gone;
-            let server = g.server;
             c = g.current;
             root = g.root;
-            d.servers[i] = server;
-            t = clock::later(t, gone);
+            d.servers[i] = g.server;
+            t = clock::later(t, g.gone);
             d.clock = t;
-            jobs::go_on(finishes, behind, job, left, i, gone, t);
+            jobs::go_on(finishes, behind, job, left, i, g.gone, t);
         }
     }
     Standing {

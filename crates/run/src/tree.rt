@@ -1,11 +1,10 @@
 // A winner tree over the keys of the servers, with as many leaves as the table needs: with n leaves the keys stand at places n to 2n - 1,
 // each place p from 1 to n - 1 holds the lesser of those at 2p and 2p + 1, and place 0 is unused. So place 1 holds the least key, and a
 // changed key changes only what stands above it.
-ghost use Rattle.std.specs.Prelude.{◌<◌, ◌≡◌};
+ghost use Rattle.std.specs.Prelude.{◌≤◌, ◌<◌, ◌≡◌};
 ghost use Rattle.books.proofs.Tree.Climb.{Climb, Climbed, Climbs};
-ghost use Rattle.books.proofs.Tree.Winners.{Beside, Leaf, Rival, Set, leaves_for, root_of, tree_of};
-
-use crate::serving::lesser;
+ghost use Rattle.books.proofs.Tree.Winners.{Beside, Enough, Leaf, Rival, Set, root_of, tree_of};
+ghost use Rattle.sizes.specs.Sizes.{most_servers};
 
 // Sets the key of server i, and what stands above it up to the root.
 pub(crate) fn set_key(tree: &mut [u64; 128], leaves: usize, i: usize, key: u64)
@@ -43,13 +42,11 @@ fn climb(tree: &mut [u64; 128], leaves: usize, from: usize, key: u64, turns: usi
 {
     let mut at = from;
     let mut least = key;
-    let mut above = turns;
-    while above > 0 {
+    for _ in 0..turns {
         let up = at / 2;
-        least = lesser(least, tree[sibling(at)]);
+        least = least.min(tree[sibling(at)]);
         tree[up] = least;
         at = up;
-        above -= 1;
     }
     least
 }
@@ -63,7 +60,7 @@ fn climb_up(tree: &mut [u64; 128], leaves: usize, from: usize, key: u64) -> u64
     let mut least = key;
     while at > 1 {
         let above = at / 2;
-        least = lesser(least, tree[sibling(at)]);
+        least = least.min(tree[sibling(at)]);
         tree[above] = least;
         at = above;
     }
@@ -79,42 +76,25 @@ pub(crate) fn rival(tree: &[u64; 128], leaves: usize, i: usize) -> u64
     let mut least = tree[sibling(leaf)];
     let mut at = leaf / 2;
     while at > 1 {
-        least = lesser(least, tree[sibling(at)]);
-        at = at / 2;
+        least = least.min(tree[sibling(at)]);
+        at /= 2;
     }
     least
 }
 
 // How many leaves so many servers need.
 pub(crate) fn leaves_of(count: usize) -> usize
-    ensures { result ≡ leaves_for count }
+    requires { count ≤ most_servers }
+    ensures { Enough count result }
 {
-    if 32 < count {
-        return 64;
-    }
-    if 16 < count {
-        return 32;
-    }
-    if 8 < count {
-        return 16;
-    }
-    if 4 < count {
-        return 8;
-    }
-    if 2 < count {
-        return 4;
-    }
-    2
+    count.next_power_of_two().clamp(2, sizes::MOST_SERVERS)
 }
 
 // The place of the half of the servers that server i is not of.
 pub(crate) fn other_half(leaves: usize, i: usize) -> usize
     ensures { result < 128 }
 {
-    if i < leaves / 2 {
-        return 3;
-    }
-    2
+    if i < leaves / 2 { 3 } else { 2 }
 }
 
 // The other place under the place above `at`.

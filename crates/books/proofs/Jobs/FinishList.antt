@@ -1,11 +1,11 @@
 -- The finish list of a run that has come to moment t: what the definitions give for that horizon.
-use Prim.Native.Nat.{ℕ, suc, ◌≤◌, ◌<◌, zero-le}
+use Prim.Native.Nat.{ℕ, zero, suc, ◌≤◌, ◌<◌, zero-le}
 use borrow.Author.Tests.{leb-true, lt-ltb, le-ltb}
 use lib.Dec.{leb, ltb}
-use lib.ListN.{length, get_or, set}
+use lib.ListN.{length, get_or, set, replicate, drop}
 use mathlib.Core.Bool.{Bool, true, false, cond}
-use mathlib.Core.List.{List}
-use mathlib.Core.Path.{◌≡◌, refl, sym, ◌∙◌, ap}
+use mathlib.Core.List.{List, [], ◌∷◌, ◌++◌}
+use mathlib.Core.Path.{◌≡◌, refl, sym, ◌∙◌, ap, ap₂}
 use native.Mathlib.Decide.{dec_lt}
 use native.Mathlib.Omega.{arith}
 use Rattle.counting.proofs.PlacesLaws.{length_places, get_d_places, places_get_d, places_same, set_places}
@@ -68,27 +68,28 @@ finishes_again m f g list =
         rw (le-ltb k m (omega arith))
         (get_d_places (length list) (λ k. cond (ltb k m) (finish_number (g k)) (get_or list k 0)) k 0 b ∙ rw (le-ltb k m (omega arith)))
 
--- one place more of an open job
-pub finishes_open : (m : ℕ) (list : List ℕ) → m < length list
-    → set (finish_list m (λ k. is_open) list) m open_job ≡ finish_list (suc m) (λ k. is_open) list
+none_open : (list : List ℕ) → finish_list 0 (λ k. is_open) list ≡ list
 unfolding finish_list
-finishes_open m list l =
-    ap (set (finish_list m (λ k. is_open) list) m) (sym here)
-    ∙ set_places (length list) (λ k. cond (ltb k m) open_job (get_or list k 0)) (λ k. cond (ltb k (suc m)) open_job (get_or list k 0)) m l
-    (λ k n. go k n (dec_lt k m))
-  where
-    here : cond (ltb m (suc m)) open_job (get_or list m 0) ≡ open_job
-    here = rw (lt-ltb m (suc m) (omega arith))
-
-    go : (k : ℕ) → (k ≡ m → ⊥) → Dec (k < m)
-        → cond (ltb k m) open_job (get_or list k 0) ≡ cond (ltb k (suc m)) open_job (get_or list k 0)
-    go k n (yes b) = rw (lt-ltb k m b, lt-ltb k (suc m) (omega arith))
-    go k n (no b) = rw (le-ltb k m (omega arith), le-ltb k (suc m) (omega arith))
-
-pub finishes_none : (list : List ℕ) → finish_list 0 (λ k. is_open) list ≡ list
-unfolding finish_list
-finishes_none list =
+none_open list =
     places_same (length list) _ (λ k. get_or list k 0) (λ k b. rw (le-ltb k 0 zero-le)) ∙ places_get_d list 0
+
+-- the number of an open job in each of the first m places
+pub finishes_open : (m : ℕ) (list : List ℕ) → m ≤ length list → replicate m open_job ++ drop m list ≡ finish_list m (λ k. is_open) list
+unfolding finish_list places
+finishes_open zero list l = sym (none_open list)
+finishes_open (suc m) [] l = let no : ⊥ = omega arith in absurd no
+finishes_open (suc m) (x ∷ xs) l =
+    ap₂ (λ (n : ℕ) (rest : List ℕ). n ∷ rest) first
+    (finishes_open m xs (omega arith)
+    ∙ places_same (length xs) (λ k. cond (ltb k m) open_job (get_or xs k 0)) (λ k. cond (ltb (suc k) (suc m)) open_job (get_or xs k 0))
+    (λ k b. go k (dec_lt k m)))
+  where
+    first : open_job ≡ cond (ltb 0 (suc m)) open_job x
+    first = rw (lt-ltb 0 (suc m) (omega arith))
+
+    go : (k : ℕ) → Dec (k < m) → cond (ltb k m) open_job (get_or xs k 0) ≡ cond (ltb (suc k) (suc m)) open_job (get_or xs k 0)
+    go k (yes b) = rw (lt-ltb k m b, lt-ltb (suc k) (suc m) (omega arith))
+    go k (no b) = rw (le-ltb k m (omega arith), le-ltb (suc k) (suc m) (omega arith))
 
 -- a run has nothing finished at its start
 pub start_open : {w : Work} {places : ℕ} → Fit w places → (k : ℕ) → k < w.arrivals → finish w (history w) 0 k ≡ is_open

@@ -1,5 +1,5 @@
--- What a spell of server i is: with `rest` of its job left and `room` ticks to go at most.
-use Prim.Native.Nat.{ℕ, ◌+◌, ◌-◌, ◌*◌, ◌≤◌, ◌<◌}
+-- What a spell of server i is that goes for so many ticks at most, which are within its job and the time.
+use Prim.Native.Nat.{ℕ, ◌+◌, ◌*◌, ◌≤◌, ◌<◌}
 use lib.Dec.{eqb}
 use lib.ListN.{get_or}
 use mathlib.Core.Bool.{cond}
@@ -16,15 +16,14 @@ use Rattle.books.proofs.Tree.Keys.{key_of}
 use Rattle.books.proofs.Tree.Winners.{Tree, Leaf}
 
 -- what it may rely on when it is planned: the server has work, budget and time, and no number is too large
-pub record MayPlan (tree : Tree) (i : ℕ) (s : Server) (rest room : ℕ) : Type 0 where
+pub record MayPlan (tree : Tree) (i : ℕ) (s : Server) (most : ℕ) : Type 0 where
   pub leaf : Leaf tree i
   pub able : Able s
   pub early : s.deadline.tick ≤ most_frame * clock_end
-  pub some_work : 0 < rest
-  pub work : rest ≤ s.waiting.ticks
+  pub some : 0 < most
+  pub work : most ≤ s.waiting.ticks
   pub charged : 0 < s.remaining.ticks
-  pub some_time : 0 < room
-  pub time : room ≤ clock_end
+  pub time : most ≤ clock_end
 
 -- of its ticks: they are within its budget and its work, and 64 bits hold its deadline where it is postponed
 pub record MayServe (s : Server) (k : ℕ) : Type 0 where
@@ -33,30 +32,27 @@ pub record MayServe (s : Server) (k : ℕ) : Type 0 where
   pub deadline : s.deadline.tick + s.period.ticks ≤ last_tick
 
 -- and when it goes, from t on
-pub record MayGo (t i : ℕ) (s : Server) (rest room : ℕ) (b : TurnBook) : Type 0 where
-  pub plans : MayPlan b.tree i s rest room
-  pub in_time : t + room ≤ clock_end
+pub record MayGo (t i : ℕ) (s : Server) (most : ℕ) (b : TurnBook) : Type 0 where
+  pub plans : MayPlan b.tree i s most
+  pub in_time : t + most ≤ clock_end
   pub bounded : Bounded clock_end t b.segments
   pub few : get_or b.postponed i 0 ≤ clock_end
   pub few_interrupted : get_or b.interrupted b.segments.current.server 0 ≤ clock_end
 
-pub record Planned (tree : Tree) (i : ℕ) (s : Server) (rest room : ℕ) (p : PlannedSpell) : Type 0 where
-  -- at least one tick, within its job, its budget and the time
+pub record Planned (tree : Tree) (i : ℕ) (s : Server) (most : ℕ) (p : PlannedSpell) : Type 0 where
+  -- at least one tick, within its budget and as many as it goes for at most
   pub some : 0 < p.ticks.ticks
-  pub inside : p.ticks.ticks ≤ rest
+  pub inside : p.ticks.ticks ≤ most
   pub budget : p.ticks.ticks ≤ s.remaining.ticks
-  pub time : p.ticks.ticks ≤ room
   pub after_is : p.after ≡ served_for s p.ticks.ticks
-  -- then whole budgets, in what is left of job and time
+  -- then whole budgets, in what is left of these
   pub spare : ℕ
-  pub of_job : spare ≤ rest - p.ticks.ticks
-  pub of_time : p.ticks.ticks + spare ≤ room
+  pub left : p.ticks.ticks + spare ≤ most
   pub further : Further tree i p.after spare p.budgets
   pub last_is : p.last ≡ budgets_on p.after p.budgets
   pub key_is : p.key ≡ key_of p.last i
   pub gone_is : p.gone.ticks ≡ p.ticks.ticks + p.budgets * s.budget.ticks
-  pub gone_rest : p.gone.ticks ≤ rest
-  pub gone_room : p.gone.ticks ≤ room
+  pub gone_inside : p.gone.ticks ≤ most
   pub postponed_is : p.postponed ≡ cond (eqb p.ticks.ticks s.remaining.ticks) 1 0 + p.budgets
   -- and no number is too large
   pub able : Able p.after

@@ -1,6 +1,7 @@
 -- Laws of a spell that is planned: no number in it is too large, and it is what the record says.
 use Prim.Native.Nat.{ℕ, zero, suc, ◌+◌, ◌-◌, ◌*◌, ◌≤◌, ◌<◌, min}
 use lib.Dec.{eqb}
+use mir.Val.{bool_byte}
 use mathlib.Core.Bool.{Bool, true, false, cond}
 use mathlib.Core.Path.{◌≡◌, refl, sym, ◌∙◌, ap, subst⁻¹, subst₂}
 use native.Mathlib.Decide.{dec_lt}
@@ -61,6 +62,11 @@ served_able s k able early = go (dec_lt k s.remaining.ticks)
           deadline = omega (arith, able.period, early);
         })
 
+-- whether a budget is spent, as a number
+pub spent_number : (b : Bool) → bool_byte b ≡ cond b 1 0
+spent_number true = refl
+spent_number false = refl
+
 -- a budget is spent once at most
 pub spent_once : (k remaining : ℕ) {n : ℕ} → n ≡ cond (eqb k remaining) 1 0 → n ≤ 1
 spent_once k remaining {n} is = subst⁻¹ (λ (m : ℕ). m ≤ 1) is (go (eqb k remaining))
@@ -69,14 +75,14 @@ spent_once k remaining {n} is = subst⁻¹ (λ (m : ℕ). m ≤ 1) is (go (eqb k
     go true = omega arith
     go false = omega arith
 
--- what is left of a job is within the work that then waits
-left_works : (ticks : ℕ) {spare rest waiting n : ℕ} → ticks + spare ≤ rest → rest ≤ waiting → n ≤ spare → n ≤ waiting - ticks
+-- what is left of the ticks is within the work that then waits
+left_works : (ticks : ℕ) {spare most waiting n : ℕ} → ticks + spare ≤ most → most ≤ waiting → n ≤ spare → n ≤ waiting - ticks
 left_works ticks within work few = omega arith
 
--- The ticks of a spell, the server after them, and what is left of job and time.
-module _ {tree : Tree} {i : ℕ} {s : Server} {rest room ticks spare : ℕ} {after : Server} (may : MayPlan tree i s rest room)
-    (ticks_is : ticks ≡ min (min s.remaining.ticks rest) room) (after_is : after ≡ served_for s ticks)
-    (spare_is : spare ≡ min (rest - ticks) (room - ticks)) where
+-- The ticks of a spell, the server after them, and how many are left.
+module _ {tree : Tree} {i : ℕ} {s : Server} {most ticks spare : ℕ} {after : Server} (may : MayPlan tree i s most)
+    (ticks_is : ticks ≡ min s.remaining.ticks most) (after_is : after ≡ served_for s ticks)
+    (spare_is : spare ≡ most - ticks) where
   pub after_able : Able after
   after_able = subst⁻¹ Able after_is (served_able s ticks may.able may.early)
 
@@ -86,8 +92,8 @@ module _ {tree : Tree} {i : ℕ} {s : Server} {rest room ticks spare : ℕ} {aft
   after_waiting : after.waiting.ticks ≡ s.waiting.ticks - ticks
   after_waiting = ap (λ (x : Server). x.waiting.ticks) after_is ∙ served_waiting s ticks
 
-  spare_job : ticks + spare ≤ rest
-  spare_job = omega arith
+  spare_left : ticks + spare ≤ most
+  spare_left = omega arith
 
   -- and n whole budgets
   module _ {n : ℕ} (further : Further tree i after spare n) where
@@ -101,7 +107,7 @@ module _ {tree : Tree} {i : ℕ} {s : Server} {rest room ticks spare : ℕ} {aft
     further_works : n * after.budget.ticks ≤ after.waiting.ticks
     further_works =
         subst₂ (λ (work waiting : ℕ). work ≤ waiting) (ap (λ (q : ℕ). n * q) (sym after_budget)) (sym after_waiting)
-        (left_works ticks spare_job may.work further_spare)
+        (left_works ticks spare_left may.work further_spare)
 
     -- each has a tick at least
     pub further_few : n ≤ clock_end
@@ -119,7 +125,7 @@ module _ {tree : Tree} {i : ℕ} {s : Server} {rest room ticks spare : ℕ} {aft
 
     pub planned : {last : Server} {key gone postponed : ℕ} → last ≡ budgets_on after n → key ≡ key_of last i
         → gone ≡ ticks + n * s.budget.ticks → postponed ≡ cond (eqb ticks s.remaining.ticks) 1 0 + n
-        → Planned tree i s rest room
+        → Planned tree i s most
         (record {
           ticks = record { ticks = ticks };
           after = after;
@@ -131,20 +137,17 @@ module _ {tree : Tree} {i : ℕ} {s : Server} {rest room ticks spare : ℕ} {aft
         })
     planned {last} {key} {gone} {postponed} last_is key_is gone_is postponed_is =
         record {
-          some = omega (arith, may.some_work, may.charged, may.some_time);
+          some = omega (arith, may.some, may.charged);
           inside = omega arith;
           budget = omega arith;
-          time = omega arith;
           after_is = after_is;
           spare = spare;
-          of_job = omega arith;
-          of_time = omega arith;
+          left = omega arith;
           further = further;
           last_is = last_is;
           key_is = key_is;
           gone_is = gone_is;
-          gone_rest = omega (arith, further_spare);
-          gone_room = omega (arith, further_spare);
+          gone_inside = omega (arith, further_spare);
           postponed_is = postponed_is;
           able = after_able;
           works = further_works;
@@ -152,25 +155,25 @@ module _ {tree : Tree} {i : ℕ} {s : Server} {rest room ticks spare : ℕ} {aft
         }
 
 -- a spell postpones its server at most once more than it has budgets, and each budget takes a tick at least
-pub planned_few : {tree : Tree} {i : ℕ} {s : Server} {rest room : ℕ} {p : PlannedSpell} → Planned tree i s rest room p
-    → 1 ≤ s.budget.ticks → p.postponed ≤ room + 1
+pub planned_few : {tree : Tree} {i : ℕ} {s : Server} {most : ℕ} {p : PlannedSpell} → Planned tree i s most p
+    → 1 ≤ s.budget.ticks → p.postponed ≤ most + 1
 planned_few {s = s} {p = p} plan one =
     omega (
       arith,
       plan.postponed_is,
       spent_once p.ticks.ticks s.remaining.ticks refl,
       plan.gone_is,
-      plan.gone_room,
+      plan.gone_inside,
       mul-le-mul_left p.budgets one,
     )
 
 -- there is work and time for its budgets, which begin behind its ticks
-pub planned_budgets : {tree : Tree} {t i : ℕ} {s : Server} {rest room : ℕ} {b : TurnBook} {p : PlannedSpell}
-    → MayGo t i s rest room b → Planned tree i s rest room p → BudgetsFrom (t + p.ticks.ticks) i p.after p.budgets
+pub planned_budgets : {tree : Tree} {t i : ℕ} {s : Server} {most : ℕ} {b : TurnBook} {p : PlannedSpell}
+    → MayGo t i s most b → Planned tree i s most p → BudgetsFrom (t + p.ticks.ticks) i p.after p.budgets
 planned_budgets may plan =
     record {
       place = omega (arith, may.plans.leaf.place, may.plans.leaf.winners.few);
       able = plan.able;
-      time = omega (arith, plan.gone_after, plan.gone_room, may.in_time);
+      time = omega (arith, plan.gone_after, plan.gone_inside, may.in_time);
       works = plan.works;
     }

@@ -38,12 +38,13 @@ use Rattle.books.proofs.Travel.Travels.{Travels}
 use Rattle.books.proofs.Tree.Keys.{key_of, Keyed, holds_set}
 use Rattle.books.proofs.Tree.Winners.{Set}
 
--- The spell of the picked server i, once its job is opened, up to a moment that comes no later than the next arrival.
-pub record Spelled (r : Run) (h : Here) (b : Book) (i room : ℕ) (turns : TurnBook) (g : Gone) : Type 0 where
+-- The spell of the picked server i, once its job is opened, for so many ticks at most: none comes behind that job or the next arrival.
+pub record Spelled (r : Run) (h : Here) (b : Book) (i most : ℕ) (turns : TurnBook) (g : Gone) : Type 0 where
   pub pick : Earliest h.dispatcher h.dispatcher.count i
   pub some : 0 < get_or b.jobs.left i 0
-  pub ahead : Ahead r.work h (h.t + room)
-  pub leaves : SpellLeaves h.t i (server_at h.dispatcher i) (get_or b.jobs.left i 0) room b.turns turns g
+  pub of_job : most ≤ get_or b.jobs.left i 0
+  pub ahead : Ahead r.work h (h.t + most)
+  pub leaves : SpellLeaves h.t i (server_at h.dispatcher i) most b.turns turns g
 
 -- where the run stands when it is over
 abbrev pub here_after : Here → ℕ → Gone → Here
@@ -51,8 +52,8 @@ here_after h i g =
     here (h.t + g.gone.ticks) h.taken
     (standing h.dispatcher (moment (h.t + g.gone.ticks)) (set h.dispatcher.servers i g.server))
 
-module _ {r : Run} {h : Here} {b : Book} (fit : Fit r.work (length r.finishes)) (v : Travels r h b) {i room : ℕ} {turns : TurnBook}
-    {g : Gone} (x : Spelled r h b i room turns g) where
+module _ {r : Run} {h : Here} {b : Book} (fit : Fit r.work (length r.finishes)) (v : Travels r h b) {i most : ℕ} {turns : TurnBook}
+    {g : Gone} (x : Spelled r h b i most turns g) where
   abbrev d : Dispatcher
   d = h.dispatcher
 
@@ -68,7 +69,7 @@ module _ {r : Run} {h : Here} {b : Book} (fit : Fit r.work (length r.finishes)) 
   abbrev n : ℕ
   n = spell.budgets
 
-  p : Planned b.turns.tree i s left room spell
+  p : Planned b.turns.tree i s most spell
   p = x.leaves.planned
 
   pick : Earliest d d.count i
@@ -100,13 +101,13 @@ module _ {r : Run} {h : Here} {b : Book} (fit : Fit r.work (length r.finishes)) 
     then = h.t + suc m
 
     to_horizon : then ≤ r.work.horizon.tick
-    to_horizon = omega (arith, p.time, x.ahead.in_time)
+    to_horizon = omega (arith, p.inside, x.ahead.in_time)
 
     none_before : NoneBefore r.work h.taken then
-    none_before a l y = omega (arith, p.time, x.ahead.later a l y)
+    none_before a l y = omega (arith, p.inside, x.ahead.later a l y)
 
     inside : suc m ≤ left
-    inside = omega (arith, p.inside)
+    inside = omega (arith, p.inside, x.of_job)
 
     budget : suc m ≤ s.remaining.ticks
     budget = omega (arith, p.budget)
@@ -166,8 +167,8 @@ module _ {r : Run} {h : Here} {b : Book} (fit : Fit r.work (length r.finishes)) 
       waits_more : 0 < get_or jobs.left i 0 → get_or jobs.left i 0 ≤ its.waiting.ticks
       waits_more l = job_waiting (stand.each i server) l (kept_then.stands.adds i)
 
-      ends_by : then + n * its.budget.ticks ≤ h.t + room
-      ends_by = omega (arith, ap (λ (x : Server). n * x.budget.ticks) own_then, budgets_spare, p.of_time)
+      ends_by : then + n * its.budget.ticks ≤ h.t + most
+      ends_by = omega (arith, ap (λ (x : Server). n * x.budget.ticks) own_then, budgets_spare, p.left)
 
       on_then : Kept r (here (then + n * its.budget.ticks) h.taken (ran_budgets ran i n)) (budget_book (ran_book jobs) then i its n)
       on_then = go its.budget.ticks refl
@@ -257,7 +258,7 @@ module _ {r : Run} {h : Here} {b : Book} (fit : Fit r.work (length r.finishes)) 
                 (subst₂ (Kept r) over_is
                 (ap₂ book turns_are (ap (λ (y : Server). job_book jobs.job (left_after y) jobs.finishes) own_then ∙ jobs-are))
                 on_then);
-            horizon = omega (arith, gone_is, budgets_spare, p.of_time, x.ahead.in_time);
+            horizon = omega (arith, gone_is, budgets_spare, p.left, x.ahead.in_time);
             keyed = keyed_over;
           }
         where
@@ -272,7 +273,7 @@ module _ {r : Run} {h : Here} {b : Book} (fit : Fit r.work (length r.finishes)) 
     its_left = get_or-set_same b.jobs.left i (left - suc m) 0 (omega (arith, v.kept.jobs.left_places, server))
 
     of_job : p.spare ≤ get_or left_then i 0
-    of_job = omega (arith, its_left, p.of_job)
+    of_job = omega (arith, its_left, p.left, x.of_job)
 
     -- something is left
     pub spell_ran : suc m < left → {after : JobBook}

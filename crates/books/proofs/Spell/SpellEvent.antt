@@ -1,5 +1,5 @@
 -- An event in which a server runs: the one that is picked, its job being opened, goes for a spell up to a moment ahead.
-use Prim.Native.Nat.{ℕ, suc, ◌+◌, ◌-◌, ◌≤◌, ◌<◌}
+use Prim.Native.Nat.{ℕ, suc, ◌+◌, ◌-◌, ◌≤◌, ◌<◌, min}
 use lib.ListN.{length, get_or, set}
 use mathlib.Core.List.{List}
 use mathlib.Core.Path.{◌≡◌, ◌∙◌, ap, subst, subst⁻¹}
@@ -72,15 +72,19 @@ module _ {r : Run} {h : Here} {b : Book} (fit : Fit r.work (length r.finishes)) 
         ((jobs_opened.0.each i place).own its_job)
         (follows.behinds _ its_job)
 
-    -- Up to a moment ahead it has room.
-    module _ {stop : ℕ} (ahead : Ahead r.work h stop) {room : Length} (room_is : room ≡ record { ticks = stop - h.t }) where
-      reach : h.t + room.ticks ≡ stop
+    -- Up to a moment ahead it goes for as many ticks as its job and the time have.
+    module _ {stop : ℕ} (ahead : Ahead r.work h stop) {room : Length} (room_is : room ≡ record { ticks = stop - h.t })
+        {most : ℕ} (most_is : most ≡ min rest room.ticks) where
+      reach : h.t + most ≤ stop
       reach = omega (arith, ap (λ (l : Length). l.ticks) room_is, ahead.some)
+
+      some : 0 < most
+      some = omega (arith, ap (λ (l : Length). l.ticks) room_is, ahead.some, o.rest_is, jobs_opened.1)
 
       clock_early : h.dispatcher.clock.tick < clock_end
       clock_early = omega (arith, clock_now fit v, ahead.some, ahead.in_time, fit.horizon)
 
-      pub may_go : MayGo h.t i s rest room.ticks b.turns
+      pub may_go : MayGo h.t i s most b.turns
       may_go =
           record {
             plans =
@@ -88,10 +92,9 @@ module _ {r : Run} {h : Here} {b : Book} (fit : Fit r.work (length r.finishes)) 
                   leaf = picked_leaf fit v pick;
                   able = ranged_able (picked_ranged fit v pick) clock_early;
                   early = ranged_early (picked_ranged fit v pick) clock_early;
-                  some_work = omega (arith, o.rest_is, jobs_opened.1);
+                  some = some;
                   work = omega (arith, o.rest_is, its_work);
                   charged = picked_charged fit v pick;
-                  some_time = omega (arith, reach, ahead.some);
                   time = omega (arith, reach, ahead.in_time, fit.horizon);
                 };
             in_time = omega (arith, reach, ahead.in_time, fit.horizon);
@@ -101,22 +104,27 @@ module _ {r : Run} {h : Here} {b : Book} (fit : Fit r.work (length r.finishes)) 
           }
 
       -- It has gone.
-      module _ {turns : TurnBook} {g : Gone} (leaves : SpellLeaves h.t i s rest room.ticks b.turns turns g) where
-        spelled : Spelled r h (book b.turns opened) i room.ticks turns g
+      module _ {turns : TurnBook} {g : Gone} (leaves : SpellLeaves h.t i s most b.turns turns g) where
+        spelled : Spelled r h (book b.turns opened) i most turns g
         spelled =
             record {
               pick = pick;
               some = jobs_opened.1;
-              ahead = subst⁻¹ (Ahead r.work h) reach ahead;
-              leaves =
-                  subst (λ (n : ℕ). SpellLeaves h.t i s n room.ticks b.turns turns g) o.rest_is leaves;
+              of_job = omega (arith, o.rest_is);
+              ahead =
+                  record {
+                    some = omega (arith, some);
+                    in_time = omega (arith, reach, ahead.in_time);
+                    later = λ a l y. omega (arith, reach, ahead.later a l y);
+                  };
+              leaves = leaves;
             }
 
         gone_is : g.gone.ticks ≡ leaves.spell.gone.ticks
         gone_is = ap (λ (l : Length). l.ticks) leaves.gone_is
 
         ends : h.t + g.gone.ticks ≤ stop
-        ends = omega (arith, gone_is, leaves.planned.gone_room, reach)
+        ends = omega (arith, gone_is, leaves.planned.gone_inside, reach)
 
         over : r.work.arrivals ≤ length r.finishes → {until root : ℕ} {from : Here}
             → Taking r.work until from h b.turns.tree stop root
@@ -127,7 +135,7 @@ module _ {r : Run} {h : Here} {b : Book} (fit : Fit r.work (length r.finishes)) 
               may_go_on =
                   record {
                     place = place;
-                    within = omega (arith, gone_is, leaves.planned.gone_rest, o.rest_is);
+                    within = omega (arith, gone_is, leaves.planned.gone_inside, o.rest_is);
                     known = omega (arith, its_job, fit.arrivals);
                     listed = omega (arith, its_job, finishes_long fit v, long);
                     time = omega (arith, ends, ahead.in_time, fit.horizon);

@@ -18,8 +18,8 @@ use Rattle.books.proofs.Spell.Planned.{Planned}
 use Rattle.books.proofs.Spell.SpellBooks.{Spelled, here_after, gone_is, left_then, its_left, spell_ran, spell_ended}
 use Rattle.books.proofs.Travel.Travels.{Travels}
 
-module _ {r : Run} {h : Here} {b : Book} (fit : Fit r.work (length r.finishes)) (v : Travels r h b) {i room : ℕ} {turns : TurnBook}
-    {g : Gone} (x : Spelled r h b i room turns g) (long : r.work.arrivals ≤ length r.finishes) {behind : List ℕ} {after : JobBook}
+module _ {r : Run} {h : Here} {b : Book} (fit : Fit r.work (length r.finishes)) (v : Travels r h b) {i most : ℕ} {turns : TurnBook}
+    {g : Gone} (x : Spelled r h b i most turns g) (long : r.work.arrivals ≤ length r.finishes) {behind : List ℕ} {after : JobBook}
     (follows : NextJob r.work i (suc (get_or b.jobs.job i 0)) (get_or behind (get_or b.jobs.job i 0) 0))
     (went : WentOn i g.gone.ticks (h.t + g.gone.ticks) behind b.jobs after) where
   abbrev left : ℕ
@@ -31,7 +31,7 @@ module _ {r : Run} {h : Here} {b : Book} (fit : Fit r.work (length r.finishes)) 
   abbrev budgets : ℕ
   budgets = spell.budgets * spell.after.budget.ticks
 
-  p : Planned b.turns.tree i (server_at h.dispatcher i) left room spell
+  p : Planned b.turns.tree i (server_at h.dispatcher i) most spell
   p = x.leaves.planned
 
   -- Its ticks are m + 1.
@@ -54,7 +54,7 @@ module _ {r : Run} {h : Here} {b : Book} (fit : Fit r.work (length r.finishes)) 
         go zero fits e = omega arith
         go (suc n) fits e =
             let no : ⊥
-            = omega (arith, fits (omega arith), p.of_job, gone, ap (λ (k : ℕ). k * spell.after.budget.ticks) e) in
+            = omega (arith, fits (omega arith), p.left, x.of_job, gone, ap (λ (k : ℕ). k * spell.after.budget.ticks) e) in
             absurd no
 
     by_left : Dec (0 < left - g.gone.ticks) → Travels r (here_after h i g) (book turns after)
@@ -64,7 +64,7 @@ module _ {r : Run} {h : Here} {b : Book} (fit : Fit r.work (length r.finishes)) 
         (jobs_same (sym same.0) left_are (sym same.1))
     by_left (no l) =
         let none : budgets ≡ 0 = no_budgets (omega arith) in
-        let all : suc m ≡ left = omega (arith, gone, ap (λ (l : Length). l.ticks) x.leaves.gone_is, p.gone_rest) in
+        let all : suc m ≡ left = omega (arith, gone, ap (λ (l : Length). l.ticks) x.leaves.gone_is, p.gone_inside, x.of_job) in
         let now : h.t + suc m ≡ h.t + g.gone.ticks = omega (arith, gone) in
         let over = went.ends (omega arith) in
         spell_ended fit v x m ticks_are long all follows

@@ -20,9 +20,9 @@ after_ticks b t i deadline after = with_waits (turned b t i deadline) after.wait
 abbrev pub after_spell : SegmentBook → ℕ → ℕ → Moment → PlannedSpell → SegmentBook
 after_spell b t i deadline p = turned_on (after_ticks b t i deadline p.after) (t + p.ticks.ticks) i p.after p.budgets
 
-pub record SpellLeaves (t i : ℕ) (s : Server) (rest room : ℕ) (b b' : TurnBook) (g : Gone) : Type 0 where
+pub record SpellLeaves (t i : ℕ) (s : Server) (most : ℕ) (b b' : TurnBook) (g : Gone) : Type 0 where
   pub spell : PlannedSpell
-  pub planned : Planned b.tree i s rest room spell
+  pub planned : Planned b.tree i s most spell
   pub server_is : g.server ≡ spell.last
   pub gone_is : g.gone ≡ spell.gone
   pub root_is : g.root ≡ root_of b'.tree

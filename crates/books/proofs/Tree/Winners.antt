@@ -1,15 +1,12 @@
 -- A winner tree with n leaves, in a list of 128 numbers: the keys of as many servers stand at places n to 2n - 1, and each place p from 1
 -- to n - 1 holds the lesser of those at 2p and 2p + 1. Place 0 and those from 2n on are unused.
-use Prim.Native.Nat.{ℕ, zero, suc, ◌+◌, ◌*◌, ◌-◌, ◌/◌, ◌≤◌, ◌<◌, min}
-use borrow.Author.Tests.{ltb-false}
-use lib.Dec.{ltb}
+use Prim.Native.Nat.{ℕ, zero, suc, ◌+◌, ◌*◌, ◌-◌, ◌/◌, ◌^◌, ◌≤◌, ◌<◌, max, min}
 use lib.ListN.{length, get_or, replicate, length-replicate, get_or-replicate}
-use mathlib.Core.Bool.{Bool, true, false, cond}
 use mathlib.Core.List.{List}
 use mathlib.Core.Logic.{◌≢◌}
-use mathlib.Core.Path.{◌≡◌, refl, sym, ◌∙◌, ap, subst⁻¹, subst₂}
+use mathlib.Core.Path.{◌≡◌, sym, ◌∙◌, ap, subst⁻¹, subst₂}
 use native.Mathlib.Decide.{dec_le, dec_lt, ℕ_discrete}
-use native.Mathlib.Nat.{min-eq_left}
+use native.Mathlib.Nat.{min-eq_left, pow-succ'}
 use native.Mathlib.Omega.{arith}
 
 pub record Tree : Type 0 where
@@ -132,30 +129,15 @@ winners_same n k some few pairs =
     same : (q : ℕ) → q < 128 → get_or (replicate 128 k) q 0 ≡ k
     same q h = get_or-replicate 128 q k 0 h
 
--- As many leaves as so many servers need: the least of 2, 4, 8 .. 64 that is no less.
-unfoldable pub leaves_for : ℕ → ℕ
-leaves_for count =
-    cond (ltb 32 count) 64 (cond (ltb 16 count) 32 (cond (ltb 8 count) 16 (cond (ltb 4 count) 8 (cond (ltb 2 count) 4 2))))
-
--- they are enough
+-- So many leaves are enough for so many servers.
 pub record Enough (count n : ℕ) : Type 0 where
   pub some : 2 ≤ n
   pub few : n ≤ 64
   pub pairs : 2 * (n / 2) ≡ n
   pub enough : count ≤ n
 
-pub leaves_enough : (count : ℕ) → count ≤ 64 → Enough count (leaves_for count)
-unfolding leaves_for
-leaves_enough count most =
-    by 32 64 _ (omega arith) (omega arith) refl most
-    (λ l. by 16 32 _ (omega arith) (omega arith) refl l
-    (λ l. by 8 16 _ (omega arith) (omega arith) refl l
-    (λ l. by 4 8 _ (omega arith) (omega arith) refl l
-    (λ l. by 2 4 2 (omega arith) (omega arith) refl l (λ l. record { some = omega arith; few = omega arith; pairs = refl; enough = l })))))
-  where
-    by : (half n rest : ℕ) → 2 ≤ n → n ≤ 64 → 2 * (n / 2) ≡ n → count ≤ n → (count ≤ half → Enough count rest) → Enough count (cond (ltb half count) n rest)
-    by half n rest some few pairs fits else = go (ltb half count) refl
-      where
-        go : (b : Bool) → ltb half count ≡ b → Enough count (cond b n rest)
-        go true e = record { some = some; few = few; pairs = pairs; enough = fits }
-        go false e = else (ltb-false half count e)
+-- a power of 2 is, within 2 and 64, that is no less
+pub enough_power : {count n : ℕ} → count ≤ 64 → (k : ℕ) → n ≡ 2 ^ k → count ≤ n → Enough count (max 2 (min n 64))
+enough_power most zero e fits = record { some = omega arith; few = omega arith; pairs = omega (arith, e); enough = omega arith }
+enough_power most (suc k) e fits =
+    record { some = omega arith; few = omega arith; pairs = omega (arith, e ∙ pow-succ' 2 k); enough = omega arith }

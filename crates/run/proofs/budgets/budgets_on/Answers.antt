@@ -9,8 +9,8 @@ use Rattle.clock.specs.declared.Moment.{Moment}
 use Rattle.server.specs.Server.{holding}
 use Rattle.run.proofs.budgets.budgets_on.Goals as goal
 
-pub less-waiting-requires : goal.less-waiting-requires
-less-waiting-requires c = omega (arith, ap (λ (l : Length). l.ticks) c.times.ensures, c.requires.works)
+pub less-requires : goal.less-requires
+less-requires c = omega (arith, ap (λ (l : Length). l.ticks) c.times.ensures, c.requires.works)
 
 pub times-requires-2 : goal.times-requires-2
 times-requires-2 c =
@@ -20,6 +20,6 @@ pub returns : goal.returns
 returns c =
     let s = c.args.s in
     ap₂ (λ (d : Moment) (w : Length). holding s s.remaining d w)
-    (c.later-deadline.ensures ∙ ap (λ (l : Length). up_to_last (later s.deadline l)) c.times-2.ensures)
-    (c.less-waiting.ensures ∙ ap (λ (l : Length). record { ticks = s.waiting.ticks - l.ticks }) c.times.ensures)
+    (c.later.ensures ∙ ap (λ (l : Length). up_to_last (later s.deadline l)) c.times-2.ensures)
+    (c.less.ensures ∙ ap (λ (l : Length). record { ticks = s.waiting.ticks - l.ticks }) c.times.ensures)
     ∙ sym (budgets_as s c.args.n c.requires.able c.requires.few)

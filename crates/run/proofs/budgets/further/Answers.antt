@@ -6,23 +6,11 @@ use Rattle.run.proofs.budgets.further.Goals as goal
 pub returns-then-keys-other_half : goal.returns-then-keys-other_half
 returns-then-keys-other_half c = further_none _ _ _ _
 
-pub returns-then-s-budget : goal.returns-then-s-budget
-returns-then-s-budget c = further_none _ _ _ _
-
-pub returns-then-spare-budget : goal.returns-then-spare-budget
-returns-then-spare-budget c = further_none _ _ _ _
-
 pub returns-then-rival-own : goal.returns-then-rival-own
 returns-then-rival-own c = further_none _ _ _ _
 
-pub returns-then-wins-fits : goal.returns-then-wins-fits
-returns-then-wins-fits c =
-    further_some _ _ _ _ c.requires.able c.if-s-budget.false c.rival-rival.ensures c.rises-wins.ensures c.fits_in-fits.ensures
-    (omega arith)
-    (omega arith)
-
 pub returns : goal.returns
 returns c =
-    further_some _ _ _ _ c.requires.able c.if-s-budget.false c.rival-rival.ensures c.rises-wins.ensures c.fits_in-fits.ensures
+    further_some _ _ _ _ c.requires.able c.if-s-budget.false c.rival-rival.ensures c.rises.ensures c.fits_in.ensures
     (omega arith)
     (omega arith)

@@ -19,9 +19,9 @@ budgets_on-last-requires c =
 pub times-requires : goal.times-requires
 times-requires c = omega (arith, c.requires.time)
 
-pub less-waits-requires : goal.less-waits-requires
+pub less-requires : goal.less-requires
 unfolding budgets_on
-less-waits-requires c = omega (arith, ap (λ (s : Server). s.waiting.ticks) c.budgets_on-last.ensures, c.requires.works)
+less-requires c = omega (arith, ap (λ (s : Server). s.waiting.ticks) c.budgets_on-last.ensures, c.requires.works)
 
 pub returns : goal.returns
 unfolding budgets_on
@@ -33,10 +33,10 @@ returns c =
       start = start;
       server = a.i;
       deadline = deadline;
-      waits = c.less-waits.result;
+      waits = c.less.result;
       count = a.ended;
     })
-    (c.later-start.ensures
+    (c.later.ensures
     ∙ ap (λ (l : Length). up_to_last (later a.t l)) c.times.ensures
     ∙ up_to_last_whole (moment (a.t.tick + a.n * a.s.budget.ticks)) (omega (arith, c.requires.time)))
     (ap (λ (s : Server). s.deadline) last)
@@ -48,4 +48,4 @@ returns c =
       waits = l;
       count = a.ended;
     })
-    (c.less-waits.ensures ∙ ap (λ (n : ℕ). record { ticks = n }) (omega (arith, ap (λ (s : Server). s.waiting.ticks) last)))
+    (c.less.ensures ∙ ap (λ (n : ℕ). record { ticks = n }) (omega (arith, ap (λ (s : Server). s.waiting.ticks) last)))

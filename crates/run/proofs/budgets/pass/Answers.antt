@@ -12,7 +12,7 @@ use Rattle.run.proofs.budgets.pass.Goals as goal
 pub pass_each-current-requires : goal.pass_each-current-requires
 pass_each-current-requires c =
     record {
-      budgets_from = budgets_less c.lesser-written.result (omega (arith, c.lesser-written.ensures)) c.requires.budgets_from;
+      budgets_from = budgets_less c.min-written.result (omega (arith, c.min-written.ensures)) c.requires.budgets_from;
       bounded = c.requires.bounded;
     }
 
@@ -30,7 +30,7 @@ one : (written n most : ℕ) → written ≡ min n most → (written ≡ n → �
 one written n most least other lower = omega (arith, least)
 
 pub overflow_sub-n : goal.overflow_sub-n
-overflow_sub-n c = omega (arith, some _ _ _ c.lesser-written.ensures c.if-written-n.false)
+overflow_sub-n c = omega (arith, some _ _ _ c.min-written.ensures c.if-written-n.false)
 
 pub overflow_add-current : goal.overflow_add-current
 overflow_add-current c =
@@ -38,24 +38,24 @@ overflow_add-current c =
     omega (
       arith,
       budgets_few c.requires.budgets_from,
-      some _ _ _ c.lesser-written.ensures c.if-written-n.false,
+      some _ _ _ c.min-written.ensures c.if-written-n.false,
       ap (λ (x : SegmentBook). x.current.count) c.pass_each-current.ensures,
-      (on_bounded a.i a.s c.lesser-written.result c.requires.bounded).counted,
+      (on_bounded a.i a.s c.min-written.result c.requires.bounded).counted,
     )
 
 pub last_of-requires : goal.last_of-requires
 last_of-requires c =
     let a = c.args in
-    let whole : a.n ≡ suc (a.n - 1) = omega (arith, some _ _ _ c.lesser-written.ensures c.if-written-n.false) in
+    let whole : a.n ≡ suc (a.n - 1) = omega (arith, some _ _ _ c.min-written.ensures c.if-written-n.false) in
     subst (BudgetsFrom a.t.tick a.i a.s) whole c.requires.budgets_from
 
 pub returns : goal.returns
 returns c =
     let a = c.args in
     let may = c.requires.budgets_from in
-    let written = c.lesser-written.result in
-    let less = some _ _ _ c.lesser-written.ensures c.if-written-n.false in
-    let least = one _ _ _ c.lesser-written.ensures c.if-written-n.false c.until_full.ensures.lower_bound in
+    let written = c.min-written.result in
+    let less = some _ _ _ c.min-written.ensures c.if-written-n.false in
+    let least = one _ _ _ c.min-written.ensures c.if-written-n.false c.until_full.ensures.lower_bound in
     let before = segment_book a.list.now a.c in
     let passed = c.pass_each-current.ensures in
     let was = turned_on before a.t.tick a.i a.s written in
@@ -68,7 +68,7 @@ returns c =
     = omega (
       arith,
       counted_least before a.t.tick a.i a.s may.place period written least,
-      c.lesser-written.ensures,
+      c.min-written.ensures,
       c.until_full.ensures.held_bound,
       less,
       ap (λ (x : SegmentBook). length x.list / 4) passed,

@@ -8,32 +8,32 @@ use Rattle.books.proofs.Budgets.Budgets.{turned_on}
 use Rattle.run.proofs.PassedLaws.{enough, may_end, passed_more, passed_none}
 use Rattle.run.proofs.budgets.pass_each.Goals as goal
 
-pub loop-k-init : goal.loop-k-init
-loop-k-init c = passed_none
+pub loop-init : goal.loop-init
+loop-init c = passed_none
 
 pub turn_to-current-requires : goal.turn_to-current-requires
 turn_to-current-requires c =
     let pre = c.requires in
-    may_end pre.budgets_from pre.bounded c.loop-k.invariant c.loop-k-test.true
+    may_end pre.budgets_from pre.bounded c.loop.invariant c.loop-test.true
 
 pub less-waiting-requires : goal.less-waiting-requires
-less-waiting-requires c = let pre = c.requires in enough pre.budgets_from pre.bounded c.loop-k.invariant c.loop-k-test.true
+less-waiting-requires c = let pre = c.requires in enough pre.budgets_from pre.bounded c.loop.invariant c.loop-test.true
 
-pub loop-k-preserved : goal.loop-k-preserved
-loop-k-preserved c =
+pub loop-preserved : goal.loop-preserved
+loop-preserved c =
     let pre = c.requires in
     rw add-one
-    (passed_more pre.budgets_from pre.bounded c.loop-k.invariant c.loop-k-test.true c.turn_to-current.ensures c.less-waiting.ensures
+    (passed_more pre.budgets_from pre.bounded c.loop.invariant c.loop-test.true c.turn_to-current.ensures c.less-waiting.ensures
     c.later-at.ensures
     c.later-deadline.ensures
     (search rules))
 
 pub shape_of-list : goal.shape_of-list
-shape_of-list c = c.loop-k.invariant.places
+shape_of-list c = c.loop.invariant.places
 
 pub returns : goal.returns
 returns c =
     let a = c.args in
-    let p = c.loop-k.invariant in
-    let all : c.loop-k.k ≡ a.n = le_antisymm p.within c.loop-k-test.false in
+    let p = c.loop.invariant in
+    let all : c.loop.counter ≡ a.n = le_antisymm p.within c.loop-test.false in
     p.segments_is ∙ ap (turned_on (segment_book a.list.now a.c) a.t.tick a.i a.s) all

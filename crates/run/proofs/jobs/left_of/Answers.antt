@@ -14,8 +14,8 @@ returns-then-rest-gt0 c =
       rest_is = refl;
     }
 
-pub arrival_of-a-requires : goal.arrival_of-a-requires
-arrival_of-a-requires c =
+pub arrival_of-requires : goal.arrival_of-requires
+arrival_of-requires c =
     let pre = c.requires in
     record { accepted = pre.accepted; k_bound = pre.serves.another (omega (arith, c.if-rest-gt0.false)) }
 
@@ -23,6 +23,6 @@ pub returns : goal.returns
 returns c =
     record {
       stays = λ some. let no : ⊥ = omega (arith, c.if-rest-gt0.false) in absurd no;
-      opens = λ none. ap (λ (a : Arrival). set c.args.left.now c.args.i a.cost.ticks) c.arrival_of-a.ensures;
+      opens = λ none. ap (λ (a : Arrival). set c.args.left.now c.args.i a.cost.ticks) c.arrival_of.ensures;
       rest_is = sym (get_or-set_same c.args.left.now c.args.i _ 0 (omega (arith, c.requires.serves.place, c.requires.serves.places)));
     }

@@ -22,13 +22,6 @@ loop-k-init c =
       within = omega (arith, read);
     }
 
-pub overflow_sub-k : goal.overflow_sub-k
-overflow_sub-k c = omega (arith, c.loop-k-test.true)
-
-pub arrival_of-a-requires : goal.arrival_of-a-requires
-arrival_of-a-requires c =
-    record { accepted = c.requires.accepted; k_bound = omega (arith, c.loop-k-test.true, c.loop-k.invariant.within) }
-
 -- The arrival that was read is one of the file's, so its server has a place.
 module _ (file : List ℕ) (accepted : Accepted file) (k : ℕ) (more : 0 < k) (within : k ≤ (work file).arrivals) where
   few : k - 1 < most_arrivals
@@ -36,36 +29,6 @@ module _ (file : List ℕ) (accepted : Accepted file) (k : ℕ) (more : 0 < k) (
 
   known : ((work file).arrival (k - 1)).server < most_servers
   known = let fit = accepted.fit in omega (arith, (fit.sound (k - 1) (omega arith)).known, fit.servers)
-
-  known_read : (a : Arrival) → a ≡ (work file).arrival (k - 1) → a.server < most_servers
-  known_read a e = omega (arith, known, ap (λ (x : Arrival). x.server) e)
-
-pub offset_bounds-first-i : goal.offset_bounds-first-i
-offset_bounds-first-i c =
-    omega (arith, known_read c.args.file.now c.requires.accepted c.loop-k.k c.loop-k-test.true c.loop-k.invariant.within c.arrival_of-a.result c.arrival_of-a.ensures)
-
-pub bounds-first-i : goal.bounds-first-i
-bounds-first-i c =
-    known_read c.args.file.now c.requires.accepted c.loop-k.k c.loop-k-test.true c.loop-k.invariant.within c.arrival_of-a.result c.arrival_of-a.ensures
-
-pub offset_bounds-behind-k : goal.offset_bounds-behind-k
-offset_bounds-behind-k c =
-    omega (arith, few c.args.file.now c.requires.accepted c.loop-k.k c.loop-k-test.true c.loop-k.invariant.within)
-
-pub bounds-behind-k : goal.bounds-behind-k
-bounds-behind-k c =
-    few c.args.file.now c.requires.accepted c.loop-k.k c.loop-k-test.true c.loop-k.invariant.within
-
-pub offset_bounds-first-i-in-loop-k : goal.offset_bounds-first-i-in-loop-k
-offset_bounds-first-i-in-loop-k c =
-    omega (arith, known_read c.args.file.now c.requires.accepted c.loop-k.k c.loop-k-test.true c.loop-k.invariant.within c.arrival_of-a.result c.arrival_of-a.ensures)
-
-pub bounds-first-i-in-loop-k : goal.bounds-first-i-in-loop-k
-bounds-first-i-in-loop-k c =
-    known_read c.args.file.now c.requires.accepted c.loop-k.k c.loop-k-test.true c.loop-k.invariant.within c.arrival_of-a.result c.arrival_of-a.ensures
-
-pub loop-k-smaller : goal.loop-k-smaller
-loop-k-smaller c = omega (arith, c.loop-k-test.true)
 
 pub loop-k-preserved : goal.loop-k-preserved
 loop-k-preserved c =
@@ -84,9 +47,3 @@ loop-k-preserved c =
           (known file c.requires.accepted l.k more within));
       within = omega (arith, within);
     }
-
-pub returns : goal.returns
-returns c =
-    let l = c.loop-k in
-    let none : l.k ≡ 0 = omega (arith, c.loop-k-test.false) in
-    subst (λ (n : ℕ). Lined (work c.args.file.now) n l.first l.behind) none l.invariant.lined

@@ -6,6 +6,3 @@ use Rattle.run.proofs.jobs.line_up.Given as goal
 
 abbrev pub invariant-loop-k : goal.invariant-loop-k
 invariant-loop-k l = record { lined : Lined (work l.file) l.k l.first l.behind; within : l.k ≤ (work l.file).arrivals }
-
-abbrev pub decreases-loop-k : goal.decreases-loop-k
-decreases-loop-k l = l.k

@@ -8,7 +8,7 @@ returns-then-is_passed_over c =
     let a = c.args in
     sym (key_passed_over a.s a.i (sym c.is_passed_over.ensures ∙ c.if-is_passed_over.true))
 
-pub returns : goal.returns
-returns c =
+pub returns-else-is_passed_over : goal.returns-else-is_passed_over
+returns-else-is_passed_over c =
     let a = c.args in
     sym (key_works a.s a.i (sym c.is_passed_over.ensures ∙ c.if-is_passed_over.false))

@@ -14,7 +14,7 @@ returns-then-remaining-eq0 c =
     let s = c.args.s in
     let none = ap (λ (l : Length). l.ticks) c.less-remaining.ensures in
     ap₂ (λ (d : Moment) (w : Length). holding s s.budget d w)
-    (c.later-postponed.ensures ∙ up_to_last_whole (later s.deadline s.period) c.requires.deadline)
+    (c.later.ensures ∙ up_to_last_whole (later s.deadline s.period) c.requires.deadline)
     c.less-waiting.ensures
     ∙ sym (served_spent s c.args.by.ticks (omega (arith, c.if-remaining-eq0.true, none)))
 

@@ -13,8 +13,8 @@ use Rattle.books.specs.declared.PlannedSpell.{PlannedSpell}
 use Rattle.sizes.specs.Sizes.{clock_end}
 use Rattle.run.proofs.spell.pass_through.Goals as goal
 
-pub turn_to-current-requires : goal.turn_to-current-requires
-turn_to-current-requires c =
+pub turn_to-requires : goal.turn_to-requires
+turn_to-requires c =
     bounded_end c.requires.bounded (omega arith)
 
 pub returns-then-budgets-eq0 : goal.returns-then-budgets-eq0
@@ -22,7 +22,7 @@ unfolding turned_on
 returns-then-budgets-eq0 c =
     let a = c.args in
     let x = segment_book a.list.now a.c in
-    ap (λ (y : SegmentBook). with_waits y a.p.after.waiting) c.turn_to-current.ensures
+    ap (λ (y : SegmentBook). with_waits y a.p.after.waiting) c.turn_to.ensures
     ∙ ap (turned_on (after_ticks x a.t.tick a.i a.deadline a.p.after) (a.t.tick + a.p.ticks.ticks) a.i a.p.after)
     (sym c.if-budgets-eq0.true)
 
@@ -35,7 +35,7 @@ pub pass-requires : goal.pass-requires
 pass-requires c =
     let a = c.args in
     let then = begins a.t a.p c.requires.budgets_from c.later.ensures in
-    let by = subst⁻¹ (Bounded (clock_end + 1) a.t.tick) c.turn_to-current.ensures (turned_bounded a.i a.deadline c.requires.bounded) in
+    let by = subst⁻¹ (Bounded (clock_end + 1) a.t.tick) c.turn_to.ensures (turned_bounded a.i a.deadline c.requires.bounded) in
     record {
       budgets_from = subst⁻¹ (λ (m : Moment). BudgetsFrom m.tick a.i a.p.after a.p.budgets) then c.requires.budgets_from;
       bounded =
@@ -50,5 +50,5 @@ returns c =
     let a = c.args in
     c.pass.ensures
     ∙ ap₂ (λ (x : SegmentBook) (m : Moment). turned_on (with_waits x a.p.after.waiting) m.tick a.i a.p.after a.p.budgets)
-    c.turn_to-current.ensures
+    c.turn_to.ensures
     (begins a.t a.p c.requires.budgets_from c.later.ensures)

@@ -11,7 +11,7 @@ use Rattle.workfile.specs.Work.{work}
 use Rattle.run.proofs.starting.start.Goals as goal
 
 pub loop-k-init : goal.loop-k-init
-loop-k-init c = record { within = omega arith; servers_are = rw c.vacant-servers.ensures (start_none _) }
+loop-k-init c = rw c.vacant-servers.ensures (start_none _)
 
 pub offset_bounds-servers-k : goal.offset_bounds-servers-k
 offset_bounds-servers-k c =
@@ -29,18 +29,8 @@ loop-k-preserved c =
     let read = c.header_of-h.ensures in
     let k = c.loop-k.k in
     let more : k < (work file).table.count = omega (arith, c.loop-k-test.true, servers_read file read) in
-    record {
-      within = omega (arith, more);
-      servers_are =
-          rw (
-            add-one,
-            c.loop-k.invariant.servers_are,
-            c.fresh.ensures,
-            c.booking_of.ensures,
-            booking_read file read k,
-          )
-          (start_more (work file).table.booking k (omega (arith, more, c.requires.fit.servers)));
-    }
+    rw (add-one, c.loop-k.invariant, c.fresh.ensures, c.booking_of.ensures, booking_read file read k)
+    (start_more (work file).table.booking k (omega (arith, more, c.requires.fit.servers)))
 
 pub returns : goal.returns
 unfolding at_moment at_start
@@ -48,5 +38,5 @@ returns c =
     let file = c.args.file.now in
     let read = c.header_of-h.ensures in
     let all : c.loop-k.k ≡ (work file).table.count
-    = omega (arith, c.loop-k.invariant.within, c.loop-k-test.false, servers_read file read) in
-    rw (c.loop-k.invariant.servers_are, all, frame_read file read, servers_read file read)
+    = omega (arith, c.loop-k.auto, c.loop-k-test.false, servers_read file read) in
+    rw (c.loop-k.invariant, all, frame_read file read, servers_read file read)

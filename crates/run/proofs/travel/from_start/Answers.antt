@@ -7,5 +7,5 @@ use Rattle.run.proofs.travel.from_start.Goals as goal
 
 pub returns : goal.returns
 returns c =
-    ap₂ (λ (d : Dispatcher) (x : Current). record { moment = moment 0; taken = 0; dispatcher = d; current = x }) c.start-dispatcher.ensures
-    c.at_rest-current.ensures
+    ap₂ (λ (d : Dispatcher) (x : Current). record { moment = moment 0; taken = 0; dispatcher = d; current = x }) c.start.ensures
+    c.at_rest.ensures

@@ -67,8 +67,8 @@ offset_bounds-d-i c = omega (arith, (taken (goal.at.offset_bounds-d-i c).After-a
 pub bounds-d-i : goal.bounds-d-i
 bounds-d-i c = (taken (goal.at.bounds-d-i c).After-arrival_of-a).place
 
-pub take-taken-requires : goal.take-taken-requires
-take-taken-requires c = (taken (goal.at.take-taken-requires c).After-arrival_of-a).may c.loop-next.invariant.keyed
+pub take-requires : goal.take-requires
+take-requires c = (taken (goal.at.take-requires c).After-arrival_of-a).may c.loop-next.invariant.keyed
 
 pub offset_bounds-d-i-in-loop-next : goal.offset_bounds-d-i-in-loop-next
 offset_bounds-d-i-in-loop-next c = omega (arith, (taken (goal.at.offset_bounds-d-i-in-loop-next c).After-arrival_of-a).place)
@@ -90,8 +90,8 @@ loop-next-preserved c =
     let r = (goal.at.loop-next-preserved c).After-arrival_of-a in
     let g = c.loop-next.invariant in
     rw add-one
-    (taking_more g c.loop-t-test.true c.loop-next-test.true ((taken r).stands _ c.take-taken.ensures.value)
-    ((taken r).keyed _ g.keyed c.take-taken.ensures.set)
+    (taking_more g c.loop-t-test.true c.loop-next-test.true ((taken r).stands _ c.take.ensures.value)
+    ((taken r).keyed _ g.keyed c.take.ensures.set)
     (rw add-one at (ap (λ (m : Moment). m.tick) c.next_stop-next-in-loop-next.ensures))
     refl)
 
@@ -145,7 +145,8 @@ go-g-requires c =
     let e = (goal.at.go-g-requires c).Else-root in
     may_go (its_fit c.requires) (travels_taking c.loop-t.invariant.travels c.loop-next.invariant) (pick e) c.left_of-rest.ensures
     (ahead e)
-    c.until.ensures
+    c.until-room.ensures
+    c.min.ensures
 
 pub offset_bounds-d-i-else-root-2 : goal.offset_bounds-d-i-else-root-2
 offset_bounds-d-i-else-root-2 c = omega (arith, its_place (goal.at.offset_bounds-d-i-else-root-2 c).Else-root)
@@ -175,7 +176,8 @@ over l =
     let v = travels_taking l.loop-t.invariant.travels g in
     spell_over fit v (root_pick fit v l.loop-next.root g.root_is l.if-root.false) l.left_of-rest.ensures
     (stop_ahead fit g.next_is l.loop-next-test.false l.requires.in_time)
-    l.until.ensures
+    l.until-room.ensures
+    l.min.ensures
     {turns = turns_after l}
     l.go-g.ensures
     l.requires.long

@@ -2,7 +2,7 @@
 use Prim.Native.Nat.{ℕ, ◌≤◌}
 use lib.ListN.{length, replicate, length-replicate}
 use mathlib.Core.List.{List, []}
-use mathlib.Core.Path.{◌≡◌, sym, ◌∙◌, ap, subst⁻¹}
+use mathlib.Core.Path.{◌≡◌, sym, ◌∙◌, ap, subst, subst⁻¹}
 use native.Mathlib.Omega.{arith}
 use Rattle.books.proofs.Accepted.{arrivals_read, horizon_read, servers_read, fit_beside}
 use Rattle.books.proofs.Book.{lent_in, standing_at, Book, book, turn_book, job_book, segment_book}
@@ -13,7 +13,7 @@ use Rattle.books.proofs.Travel.BetweenEvents.{bounded}
 use Rattle.books.proofs.Travel.Travels.{Travels, travels_start}
 use Rattle.books.proofs.Travel.WholeRun.{list_whole, count_whole, finishes_whole, postponed_whole, interrupted_all}
 use Rattle.books.specs.declared.Standing.{Standing}
-use Rattle.books.proofs.Tree.Winners.{tree_of, Enough, leaves_for, leaves_enough}
+use Rattle.books.proofs.Tree.Winners.{tree_of, Enough}
 use Rattle.clock.specs.Clock.{last_tick}
 use Rattle.clock.specs.declared.Moment.{Moment}
 use Rattle.finish.specs.Finish.{is_open, finish_list}
@@ -25,6 +25,9 @@ use Rattle.trace.specs.Trace.{begun}
 use Rattle.workfile.specs.Work.{Work, work}
 use Rattle.run.proofs.travel.travel.Goals as goal
 use Rattle.run.proofs.travel.travel.Goals.{After-from_start, After-to_moment-end}
+
+pub leaves_of-leaves-requires : goal.leaves_of-leaves-requires
+leaves_of-leaves-requires c = omega (arith, servers_read _ c.header_of-h.ensures, c.requires.accepted.fit.servers)
 
 pub open_all-requires : goal.open_all-requires
 open_all-requires c = omega (arith, arrivals_read _ c.header_of-h.ensures, c.requires.file_in_bounds)
@@ -77,8 +80,7 @@ fit p = fit_beside (length (opened p)) p.requires.accepted.fit (long p)
 -- its tree has leaves enough
 enough : (p : After-from_start) → Enough (its p).table.count p.leaves_of-leaves.result
 enough p =
-    subst⁻¹ (Enough (its p).table.count) (p.leaves_of-leaves.ensures ∙ ap leaves_for (servers_read _ p.header_of-h.ensures))
-    (leaves_enough (its p).table.count (fit p).servers)
+    subst (λ (count : ℕ). Enough count p.leaves_of-leaves.result) (servers_read _ p.header_of-h.ensures) p.leaves_of-leaves.ensures
 
 starts : (p : After-from_start)
     → Travels (lent_in (its p) (from p).moment.tick (from p).current p.args.list.now (opened p)) (standing_at (from p))

@@ -1,18 +1,25 @@
 -- `run::tree::climb` meets its promise: every turn is a turn of the climb, and after so many it has reached the root.
+use Prim.Native.Nat.{ℕ, ◌-◌, ◌/◌}
+use mathlib.Core.Path.{subst}
 use native.Mathlib.Omega.{arith}
-use Rattle.books.proofs.Tree.Climb.{one_up, root_reached, climb_goes_on, climb_over}
+use Rattle.books.proofs.Tree.Climb.{Below, one_up, root_reached, climb_goes_on, climb_over}
 use Rattle.run.proofs.tree.climb.Goals as goal
 
-pub loop-above-init : goal.loop-above-init
-loop-above-init c = (c.requires.climb, c.requires.up)
+pub loop-init : goal.loop-init
+loop-init c = record { climb = c.requires.climb; up = subst (Below c.args.from) (omega arith) c.requires.up }
 
-pub loop-above-preserved : goal.loop-above-preserved
-loop-above-preserved c =
-    let loop = c.loop-above in
+pub loop-preserved : goal.loop-preserved
+loop-preserved c =
+    let loop = c.loop in
     let beside = c.sibling in
-    let up = one_up loop.at loop.above loop.invariant.1 c.loop-above-test.true in
-    (climb_goes_on loop.invariant.0 beside.result c.lesser-least.result beside.ensures c.lesser-least.ensures up.0, up.1)
+    let up = one_up loop.at (c.args.turns - loop.counter) loop.invariant.up (omega (arith, c.loop-test.true)) in
+    record {
+      climb = climb_goes_on loop.invariant.climb beside.result c.min-least.result beside.ensures c.min-least.ensures up.0;
+      up = subst (λ (left : ℕ). Below (loop.at / 2) left) (omega arith) up.1;
+    }
 
 pub returns : goal.returns
 returns c =
-    let loop = c.loop-above in climb_over loop.invariant.0 (root_reached loop.at loop.above loop.invariant.1 (omega (arith, c.loop-above-test.false)))
+    let loop = c.loop in
+    climb_over loop.invariant.climb
+    (root_reached loop.at (c.args.turns - loop.counter) loop.invariant.up (omega (arith, c.loop-test.false)))

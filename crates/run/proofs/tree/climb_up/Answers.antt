@@ -8,7 +8,7 @@ loop-at-init c = c.requires
 pub loop-at-preserved : goal.loop-at-preserved
 loop-at-preserved c =
     let beside = c.sibling in
-    climb_goes_on c.loop-at.invariant beside.result c.lesser-least.result beside.ensures c.lesser-least.ensures c.loop-at-test.true
+    climb_goes_on c.loop-at.invariant beside.result c.min-least.result beside.ensures c.min-least.ensures c.loop-at-test.true
 
 pub returns : goal.returns
 returns c = climb_over c.loop-at.invariant c.loop-at-test.false

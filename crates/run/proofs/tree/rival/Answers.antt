@@ -9,7 +9,7 @@ loop-at-init c = would_starts c.requires.winners c.requires.place c.sibling.resu
 pub loop-at-preserved : goal.loop-at-preserved
 loop-at-preserved c =
     let beside = c.sibling-in-loop-at in
-    would_goes_on c.loop-at.invariant beside.result c.lesser-least.result beside.ensures c.lesser-least.ensures
+    would_goes_on c.loop-at.invariant beside.result c.min-least.result beside.ensures c.min-least.ensures
     c.loop-at-test.true
 
 pub returns : goal.returns
