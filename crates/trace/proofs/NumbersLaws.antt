@@ -1,5 +1,5 @@
 -- Segments as numbers and back: what a list holds that is just long enough for them.
-use Prim.Native.Nat.{ℕ, ◌+◌, ◌*◌, ◌/◌, ◌<◌}
+use Prim.Native.Nat.{ℕ, ◌*◌, ◌/◌, ◌<◌}
 use lib.ListN.{length, get_or}
 use lib.Seq.{ext_get_or}
 use mathlib.Core.List.{List, [], ◌∷◌, ◌++◌}
