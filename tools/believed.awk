@@ -566,8 +566,8 @@ function page(    g) {
     print "constructors, without comments and blank lines.\n"
     print "They are written in these words of the toolchain's kit. In a contract `x.old` and `x.new` are what an x that is lent to"
     print "be altered holds before and after the call, `x.now` is what an x that is lent to be read holds, and `result` is what the"
-    print "call answers; `t.f` is the field f of t. (The laws of functions over a struct that holds a reference speak of the kit's"
-    print "program logic besides.)\n"
+    print "call answers; `t.f` is the field f of t. Of what a struct holds lent, `now` is what it refers to, and `ghost_name` tells"
+    print "which it is. (The laws of functions over a struct that holds a reference speak of the kit's program logic besides.)\n"
     print "| In the kit | What it is |\n|---|---|"
     for (g = 1; g <= kit_rows; g++) print kit_line[g]
     print ""

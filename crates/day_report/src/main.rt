@@ -4,18 +4,17 @@
 
 mod input;
 
-ghost use Rattle.std.specs.Prelude.{◌+◌, ◌≤◌, length, take, ◌≡◌};
+ghost use Rattle.std.specs.Prelude.{◌≤◌, length, take, ◌≡◌};
 ghost use Rattle.std.specs.Counts.{IsPrefixLen};
 ghost use Rattle.report.specs.DayReport.{day_report, most_bytes};
-ghost use Rattle.sizes.specs.Sizes.{most_file};
 ghost use Rattle.day_report.specs.Working.Printed.{Printed};
 
 // The longest work file, and one byte to know a longer one.
 const ROOM: usize = sizes::MOST_FILE + 1;
 
 fn main(rt: HostRuntime) {
-    let mut file = room_for_file();
-    let mut text = room_for_text();
+    let mut file = [0; ROOM];
+    let mut text = [0; report::MOST_BYTES];
     print_report(&rt, &mut file, &mut text);
 }
 
@@ -34,8 +33,7 @@ fn print_report(rt: &(impl Input + Print + Eprint), room: &mut [u8], text: &mut 
         return;
     }
     let end = whole_report(&room[..length], text);
-    let written = rt.write_all(&text[..end]);
-    if written.is_err() {
+    if rt.write_all(&text[..end]).is_err() {
         complain(rt, "day_report: the report could not be written");
     }
 }
@@ -52,17 +50,4 @@ fn whole_report(file: &[u8], text: &mut [u8]) -> usize
 // A line on standard error. Where that cannot be written either, nothing is left to say.
 fn complain(rt: &impl Eprint, line: &str) {
     let _ = rt.eprintln(line);
-}
-
-// The contracts give the lengths, which lending the arrays needs.
-fn room_for_file() -> [u8; ROOM]
-    ensures { most_file + 1 ≡ length result }
-{
-    [0; ROOM]
-}
-
-fn room_for_text() -> [u8; report::MOST_BYTES]
-    ensures { most_bytes ≡ length result }
-{
-    [0; report::MOST_BYTES]
 }

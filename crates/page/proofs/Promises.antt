@@ -1,12 +1,21 @@
--- The promise of this crate allows one outcome, and asks nothing: the list at exit and the next place are given whole.
+-- The promise of this crate allows one outcome, and asks nothing: which list it is, what it holds at exit and the next place are given whole.
+use Prim.Native.Nat.{ℕ}
+use denote.RattleType.{RattleType}
+use mathlib.Core.List.{List, [], Mem, not-mem-nil}
+use mathlib.Core.Path.{◌≡◌, refl, ap₂, subst}
 use Rattle.promise.specs.AsksNothing.{AsksNothing}
 use Rattle.promise.specs.OneOutcome.{OneOutcomeLent}
 use Rattle.promise.proofs.OneOutcomeLaws.{both_are}
-use Rattle.page.proofs.PageLaws.{page_apart}
-use Rattle.page.proofs.add.Reads as add
+use Rattle.std.specs.Borrow.{GName}
+use Rattle.page.specs.Page.{Page, page}
+use Rattle.page.proofs.Page.add.Reads as add
 
-pub add_one : OneOutcomeLent add.Post (λ l e. e.0.now)
-add_one l a x y at_x at_y p q = page_apart (both_are p q)
+-- whatever the items are; what goes before the promise is what the kit has of their type
+pub add_one : (T : RattleType) (laws : _) (copy : _) (clone : _) (by : _)
+    → OneOutcomeLent {X = GName × Page T.Denot} (add.Post T laws copy clone by) (λ l e. (e.0.now.list.ghost_name, page e.0.now.list.now e.0.now.next))
+add_one T laws copy clone by l a x y at_x at_y p q =
+    (refl, ap₂ (λ n r. (n, r)) (both_are p.0 q.0) (both_are p.1 q.1))
 
-pub add_asks : AsksNothing add.Pre
-add_asks l a given = tt
+-- of items that hold no reference, as bytes and numbers; of others the kit asks that they live as long as the list is lent
+pub add_asks : (T : RattleType) (laws : _) (copy : _) (clone : _) (by : _) → T.lives ≡ [] → AsksNothing (add.Pre T laws copy clone by)
+add_asks T laws copy clone by none l a given k held = absurd (not-mem-nil (subst (λ (lives : List ℕ). Mem k lives) none held))

@@ -1,17 +1,26 @@
 // A lent list of bytes or of numbers that is filled from its start on: one is added behind the other, and what does not fit is left out. No
-// place is touched but those that are filled. Bytes are added by `text`.
+// place is touched but those that are filled. Text is added by `text`.
 #![tactic(auto)]
 
 ghost use Rattle.std.specs.Prelude.{[], ◌∷◌, ◌≡◌};
 ghost use Rattle.page.specs.Page.{added, page};
 
-// Adds one number at a place of the list, and answers the next place: the same one where there is no room.
-pub fn add(list: &mut [u64], next: usize, n: u64) -> usize
-    ensures { page list.new result ≡ added (n ∷ []) (page list.old next) }
-{
-    if next < list.len() {
-        list[next] = n;
-        return next + 1;
+#[derive(Drop)]
+pub struct Page<'a, T> {
+    pub list: &'a mut [T],
+    // The place that is filled next.
+    pub next: usize,
+}
+
+impl<T: Copy> Page<'_, T> {
+    // Adds one item, where there is room.
+    pub fn add(&mut self, item: T)
+        ensures same_list { self.new.list.ghost_name ≡ self.old.list.ghost_name }
+        ensures added { page self.new.list.now self.new.next ≡ added (item ∷ []) (page self.old.list.now self.old.next) }
+    {
+        if self.next < self.list.len() {
+            self.list[self.next] = item;
+            self.next += 1;
+        }
     }
-    next
 }

@@ -1,6 +1,7 @@
 pub mod AfterRunLaws
 pub mod LengthLaws
 pub mod LineLengthLaws
+pub mod PartsLaws
 pub mod Promises
 pub mod RanLaws
 pub mod ReportLaws

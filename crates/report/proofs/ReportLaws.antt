@@ -69,7 +69,7 @@ module _ {file list ends : List ℕ} {segments : ℕ} {records : List Summary} (
       ∙ servers_told w told.accepted.fit.servers
 
   -- the parts one behind the other
-  pub report_told : (shown : ℕ) (p q₁ q₂ q₃ q₄ q₅ : Page) → shown ≡ fitting segments list
+  pub report_told : (shown : ℕ) (p q₁ q₂ q₃ q₄ q₅ : Page ℕ) → shown ≡ fitting segments list
       → q₁ ≡ added (admitted_line (shares w.frame w.table) w.frame.ticks) p
       → q₂ ≡ added (each shown (λ k. segment_line (segment_in list k))) q₁
       → q₃ ≡ added (segments_line segments shown) q₂

@@ -3,7 +3,7 @@
 
 mod lines;
 
-ghost use Rattle.std.specs.Prelude.{◌≤◌, min, length, get_or, ◌≡◌};
+ghost use Rattle.std.specs.Prelude.{◌≤◌, length, get_or, ◌≡◌};
 ghost use Rattle.booking.specs.Admission.{shares};
 ghost use Rattle.books.proofs.Accepted.{Accepted};
 ghost use Rattle.report.specs.DayReport.{accepted_report, day_report, segment_line, server_line};
@@ -15,6 +15,7 @@ ghost use Rattle.trace.specs.Written.{segment_in};
 ghost use Rattle.workfile.specs.Work.{work};
 
 use clock::Length;
+use page::Page;
 use summary::Summary;
 
 // No report is longer (`report_fits` of proofs/LengthLaws.antt).
@@ -24,55 +25,50 @@ pub const MOST_BYTES: usize = 262144;
 pub fn day_report(file: &[u8], text: &mut [u8]) -> usize
     ensures { page text.new result ≡ added (day_report file.now) (page text.old 0) }
 {
-    let mut list = trace_list();
-    let mut finishes = finish_list();
+    let mut page = Page {
+        list: text,
+        next: 0,
+    };
+    report(&mut page, file);
+    page.next
+}
+
+// The report of a file, added to a page.
+fn report(text: &mut Page<'_, u8>, file: &[u8])
+    ensures same_list { text.new.list.ghost_name ≡ text.old.list.ghost_name }
+    ensures added { page text.new.list.now text.new.next ≡ added (day_report file.now) (page text.old.list.now text.old.next) }
+{
+    let mut list = [0; sizes::TRACE_NUMBERS];
+    let mut finishes = [0; sizes::MOST_ARRIVALS];
     let ran = run::run(file, &mut list, &mut finishes);
     let verdict = ran.verdict;
     let summaries = ran.summaries;
     match verdict {
-        Ok(()) => accepted(file, &list, &finishes, ran.segments, summaries, text),
-        Err(why) => lines::refused(text, 0, why),
+        Ok(()) => accepted(text, file, &list, &finishes, ran.segments, summaries),
+        Err(why) => lines::refused(text, why),
     }
-}
-
-// The contracts give the lengths, which lending the arrays needs.
-fn trace_list() -> [u64; sizes::TRACE_NUMBERS]
-    ensures { trace_numbers ≡ length result }
-{
-    [0; sizes::TRACE_NUMBERS]
-}
-
-fn finish_list() -> [u32; sizes::MOST_ARRIVALS]
-    ensures { most_arrivals ≡ length result }
-{
-    [0; sizes::MOST_ARRIVALS]
 }
 
 // The report of an accepted file, from what the run left.
 fn accepted(
+    text: &mut Page<'_, u8>,
     file: &[u8],
     list: &[u64],
     finishes: &[u32],
     segments: usize,
     records: [Summary; sizes::MOST_SERVERS],
-    text: &mut [u8],
-) -> usize
+)
     requires { AfterRun file.now list.now finishes.now segments records }
-    ensures { page text.new result ≡ added (accepted_report (work file.now) (trace_of (work file.now))) (page text.old 0) }
+    ensures same_list { text.new.list.ghost_name ≡ text.old.list.ghost_name }
+    ensures added { page text.new.list.now text.new.next ≡ added (accepted_report (work file.now) (trace_of (work file.now))) (page text.old.list.now text.old.next) }
 {
     let h = workfile::header_of(file);
-    let shown = least(segments, list.len() / 4);
-    let mut at = lines::admitted(text, 0, shares(file), h.frame);
-    at = segment_lines(text, at, list, shown);
-    at = lines::segments(text, at, segments, shown);
-    at = job_lines(text, at, file, finishes);
-    server_lines(text, at, records, h.servers.count)
-}
-
-fn least(a: usize, b: usize) -> usize
-    ensures { result ≡ min a b }
-{
-    if a < b { a } else { b }
+    let shown = segments.min(list.len() / 4);
+    lines::admitted(text, shares(file), h.frame);
+    segment_lines(text, list, shown);
+    lines::segments(text, segments, shown);
+    job_lines(text, file, finishes);
+    server_lines(text, records, h.servers.count);
 }
 
 // The sum of the shares of an accepted file's table: what its booking sheet takes off the frame.
@@ -88,52 +84,35 @@ fn shares(file: &[u8]) -> Length
 }
 
 // The lines of the first segments of a trace list.
-fn segment_lines(text: &mut [u8], next: usize, list: &[u64], shown: usize) -> usize
-    ensures { page text.new result ≡ added (each shown (λ k. segment_line (segment_in list.now k))) (page text.old next) }
+fn segment_lines(text: &mut Page<'_, u8>, list: &[u64], shown: usize)
+    ensures same_list { text.new.list.ghost_name ≡ text.old.list.ghost_name }
+    ensures added { page text.new.list.now text.new.next ≡ added (each shown (λ k. segment_line (segment_in list.now k))) (page text.old.list.now text.old.next) }
 {
-    let mut at = next;
-    let mut k = 0;
-    while k < shown {
-        let s = trace::segment_at(list, k);
-        at = lines::segment(text, at, s);
-        k += 1;
+    for k in 0..shown {
+        lines::segment(text, trace::segment_at(list, k));
     }
-    at
 }
 
 // The lines of all jobs of an accepted file.
-fn job_lines(text: &mut [u8], next: usize, file: &[u8], finishes: &[u32]) -> usize
+fn job_lines(text: &mut Page<'_, u8>, file: &[u8], finishes: &[u32])
     requires accepted { Accepted file.now }
     requires finishes_len { length finishes.now ≡ most_arrivals }
-    ensures { page text.new result ≡ added (each (work file.now).arrivals (job_in (work file.now) finishes.now)) (page text.old next) }
+    ensures same_list { text.new.list.ghost_name ≡ text.old.list.ghost_name }
+    ensures added { page text.new.list.now text.new.next ≡ added (each (work file.now).arrivals (job_in (work file.now) finishes.now)) (page text.old.list.now text.old.next) }
 {
     let h = workfile::header_of(file);
-    let jobs = h.arrivals.count;
-    let mut at = next;
-    let mut k = 0;
-    while k < jobs {
-        let a = listing::arrival_of(file, h, k);
-        at = lines::job(text, at, k, a, finishes[k]);
-        k += 1;
+    for (k, &finish) in finishes[..h.arrivals.count].iter().enumerate() {
+        lines::job(text, k, listing::arrival_of(file, h, k), finish);
     }
-    at
 }
 
 // The lines of the first servers.
-fn server_lines(
-    text: &mut [u8],
-    next: usize,
-    records: [Summary; sizes::MOST_SERVERS],
-    servers: usize,
-) -> usize
+fn server_lines(text: &mut Page<'_, u8>, records: [Summary; sizes::MOST_SERVERS], servers: usize)
     requires { servers ≤ most_servers }
-    ensures { page text.new result ≡ added (each servers (λ i. server_line i (get_or records i blank))) (page text.old next) }
+    ensures same_list { text.new.list.ghost_name ≡ text.old.list.ghost_name }
+    ensures added { page text.new.list.now text.new.next ≡ added (each servers (λ i. server_line i (get_or records i blank))) (page text.old.list.now text.old.next) }
 {
-    let mut at = next;
-    let mut i = 0;
-    while i < servers {
-        at = lines::server(text, at, i, records[i]);
-        i += 1;
+    for i in 0..servers {
+        lines::server(text, i, records[i]);
     }
-    at
 }

@@ -48,7 +48,7 @@ pub put_fits : (k : ℕ) (s : Segment) (list : List ℕ) → k < length list / 4
 unfolding put
 put_fits k s list fits =
     rw (le-leb (4 * k + 4) (length list) (omega arith))
-    (sym (ap (λ (p : Page). p.list) (four_set list (4 * k) s.start.tick s.length.ticks s.server s.deadline.tick (omega arith))))
+    (sym (ap (λ (p : Page ℕ). p.list) (four_set list (4 * k) s.start.tick s.length.ticks s.server s.deadline.tick (omega arith))))
 
 -- which come to its four numbers laid over them
 over_fits : (m l : List ℕ) → length m ≤ length l → over m l ≡ m ++ drop (length m) l

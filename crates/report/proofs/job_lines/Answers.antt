@@ -1,47 +1,42 @@
 -- `report::job_lines` meets its promise: after k turns the lines of the first k jobs are added.
-use lib.ListN.{get_or}
-use mathlib.Core.Path.{◌∙◌, ap}
+use Prim.Native.Nat.{ℕ}
+use lib.ListN.{length-take}
+use lib.Seq.{length-take-le}
+use Rattle.std.proofs.lemmas.List.{get_or-take}
+use mathlib.Core.Path.{refl, sym, ◌∙◌, ap₂}
 use native.Mathlib.Omega.{arith}
 use Rattle.arrival.specs.declared.Arrival.{Arrival}
 use Rattle.books.proofs.Accepted.{arrival_read, arrivals_read}
 use Rattle.finish.specs.Finish.{finish_of}
-use Rattle.report.specs.DayReport.{job_with}
 use Rattle.page.proofs.PageLaws.{added_as, each_none, each_next, each_all}
+use Rattle.report.specs.DayReport.{job_with}
 use Rattle.report.proofs.job_lines.Goals as goal
 
+pub slice_bounds-finish-items-end : goal.slice_bounds-finish-items-end
+slice_bounds-finish-items-end c =
+    sym (length-take-le _ _ (omega (arith, arrivals_read _ c.header_of-h.ensures, c.requires.accepted.fit.arrivals, c.requires.finishes_len)))
+
 pub loop-k-init : goal.loop-k-init
-loop-k-init c = record { within = omega arith; so_far = each_none _ _ }
-
--- at a turn: job k is one of the file's, which has few
-pub offset_bounds-finishes-k : goal.offset_bounds-finishes-k
-offset_bounds-finishes-k c =
-    omega (arith, c.loop-k-test.true, arrivals_read _ c.header_of-h.ensures, c.requires.accepted.fit.arrivals)
-
-pub bounds-finishes-k : goal.bounds-finishes-k
-bounds-finishes-k c =
-    omega (
-      arith,
-      c.loop-k-test.true,
-      arrivals_read _ c.header_of-h.ensures,
-      c.requires.accepted.fit.arrivals,
-      c.requires.finishes_len,
-    )
+loop-k-init c = record { same_list = refl; so_far = each_none _ _ }
 
 pub loop-k-preserved : goal.loop-k-preserved
 loop-k-preserved c =
     let l = c.loop-k in
     let finishes = c.args.finishes.now in
     record {
-      within = omega (arith, c.loop-k-test.true);
+      same_list = c.job.ensures.same_list ∙ l.invariant.same_list;
       so_far =
           each_next _ l.k _ _ _ l.invariant.so_far
           (added_as _
-          (ap (λ (a : Arrival). job_with a l.k (finish_of (get_or finishes l.k 0)))
-          (c.arrival_of-a.ensures ∙ arrival_read _ c.header_of-h.ensures l.k))
-          c.job-at.ensures);
+          (ap₂ (λ (a : Arrival) (n : ℕ). job_with a l.k (finish_of n))
+          (c.arrival_of.ensures ∙ arrival_read _ c.header_of-h.ensures l.k)
+          (get_or-take c.header_of-h.result.arrivals.count finishes l.k 0 (omega (arith, c.loop-k-test.true, length-take c.header_of-h.result.arrivals.count finishes))))
+          c.job.ensures.added);
     }
 
-pub returns : goal.returns
-returns c =
+pub returns-clause-added : goal.returns-clause-added
+returns-clause-added c =
     let read = arrivals_read _ c.header_of-h.ensures in
-    each_all _ _ _ _ _ (omega (arith, c.loop-k.invariant.within, read)) (omega (arith, c.loop-k-test.false, read)) c.loop-k.invariant.so_far
+    let all = length-take-le c.header_of-h.result.arrivals.count c.args.finishes.now
+    (omega (arith, read, c.requires.accepted.fit.arrivals, c.requires.finishes_len)) in
+    each_all _ _ _ _ _ (omega (arith, c.loop-k.auto.k-end, all, read)) (omega (arith, c.loop-k-test.false, all, read)) c.loop-k.invariant.so_far

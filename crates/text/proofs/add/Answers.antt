@@ -1,24 +1,15 @@
 -- `text::add` meets its promise: after k bytes the page is the one that was lent with the first k added.
-use Prim.Native.Nat.{◌-◌}
-use mathlib.Core.Path.{sym}
-use native.Mathlib.Omega.{arith}
-use Rattle.page.proofs.PageLaws.{added_none, added_next, added_all, added_kept}
+use mathlib.Core.Path.{refl, sym, ◌∙◌}
+use Rattle.page.proofs.PageLaws.{added_none, added_next}
 use Rattle.text.proofs.add.Goals as goal
 
-pub loop-k-init : goal.loop-k-init
-loop-k-init c = (omega arith, sym (added_none _))
+pub loop-byte-init : goal.loop-byte-init
+loop-byte-init c = record { same_list = refl; so_far = sym (added_none _) }
 
-pub loop-k-smaller : goal.loop-k-smaller
-loop-k-smaller c = omega (arith, c.loop-k-test.true)
-
-pub loop-k-preserved : goal.loop-k-preserved
-loop-k-preserved c =
-    let l = c.loop-k in
-    let more = c.loop-k-test.true in
-    (omega (arith, more), added_next _ l.k _ _ _ more l.invariant.1 c.add_byte-at.ensures)
-
-pub shape_of-text : goal.shape_of-text
-shape_of-text c = added_kept _ _ c.loop-k.invariant.1
-
-pub returns : goal.returns
-returns c = added_all _ _ _ _ c.loop-k-test.false c.loop-k.invariant.1
+pub loop-byte-preserved : goal.loop-byte-preserved
+loop-byte-preserved c =
+    let l = c.loop-byte in
+    record {
+      same_list = c.add.ensures.same_list ∙ l.invariant.same_list;
+      so_far = added_next _ l.byte-index 0 _ _ _ c.loop-byte-test.true l.invariant.so_far c.add.ensures.added;
+    }

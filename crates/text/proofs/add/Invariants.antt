@@ -1,13 +1,12 @@
 -- `text::add` meets its promise: after k bytes the page is the one that was lent with the first k added.
-use Prim.Native.Nat.{◌-◌, ◌≤◌}
-use lib.ListN.{length, take}
+use lib.ListN.{take}
 use mathlib.Core.Path.{◌≡◌}
 use Rattle.page.specs.Page.{page, added}
 use Rattle.text.proofs.add.Given as goal
 
-abbrev pub invariant-loop-k : goal.invariant-loop-k
-invariant-loop-k l =
-    (l.k ≤ length l.bytes) × (page l.text l.at ≡ added (take l.k l.bytes) (page l.initial.text l.next))
-
-abbrev pub decreases-loop-k : goal.decreases-loop-k
-decreases-loop-k l = length l.bytes - l.k
+abbrev pub invariant-loop-byte : goal.invariant-loop-byte
+invariant-loop-byte l =
+    record {
+      same_list : l.text.list.ghost_name ≡ l.initial.text.list.ghost_name;
+      so_far : page l.text.list.now l.text.next ≡ added (take l.byte-index l.bytes) (page l.initial.text.list.now l.initial.text.next);
+    }
