@@ -102,6 +102,8 @@ function begins(file, at, text,    word, k, what) {
     if (text ~ /^(pub )?use /) state = "use"
     else if (text ~ /^(pub )?mod /) { state = "mod"; alias[file, word[1] == "pub" ? word[3] : word[2]] = "" }
     else if (word[1] == "module") state = "module"
+    # A list of laws for the check's search states nothing.
+    else if (text ~ /^(pub )?ruleset /) { state = "ruleset"; current = "" }
     else if (current != "" && word[1] == name[current]) {
         size[current]++
         state = kind[current] == "law" ? "proof" : "clause"
@@ -332,6 +334,7 @@ function tell_kit(    prelude) {
     kit_words(prelude, "get_or", "`get_or l i x`", "what stands at place i of a list, counted from 0; x from its end on")
     kit_words(prelude, "set", "`set l i x`", "the list with x at place i; the same list from its end on")
     kit_words(prelude, "take drop", "`take n l`, `drop n l`", "the first n places, all where there are fewer; the others")
+    kit_words(prelude, "Result Ok Err", "`Result A E`, `Ok a`, `Err e`", "what was asked for, an A, or why there is none, an E; the one; the other")
     kit_words("Prim.Native.String", "String [] ◌∷◌", "`String`, `end`, `c then s`", "a text; the empty one; s with the character c in front")
     kit_words("Prim.Native.Char", "code", "`code c`", "the number of a character")
     kit_words(prelude, "◌≡◌", "`x ≡ y`", "x is y")
