@@ -10,6 +10,7 @@ ghost use Rattle.workfile.specs.Work.{work_under};
 use arrival::Arrival;
 use booking::{Booking, Sheet};
 use clock::Length;
+use std::array;
 use workfile::{Block, Header, Record};
 
 // The booking of server k. Where its record lies behind the end every number counts 0.
@@ -30,19 +31,10 @@ pub fn arrival_of(file: &[u8], h: Header, k: usize) -> Arrival
 pub fn sheet_of(file: &[u8], h: Header) -> Sheet
     ensures { result ≡ sheet_of h.frame (work_under h file.now).table }
 {
-    let blank = Booking {
-        budget: Length { ticks: 0 },
-        period: Length { ticks: 0 },
-    };
-    // `array::from_fn` is no plainer here: its closure would need a contract of its own, which says what `booking_of` promises.
-    let mut bookings = [blank; sizes::MOST_SERVERS];
-    for k in 0..sizes::MOST_SERVERS {
-        bookings[k] = booking_of(file, h, k);
-    }
     Sheet {
         frame: h.frame,
         count: h.servers.count,
-        bookings,
+        bookings: array::from_fn(|k| booking_of(file, h, k)),
     }
 }
 
