@@ -2,17 +2,19 @@
 use Prim.Native.Nat.{ℕ, suc, ◌≤◌, ◌<◌}
 use borrow.Author.Tests.{lt-ltb, le-ltb}
 use lib.ListN.{get_or, replicate, set, get_or-eq_default}
-use mathlib.Core.Path.{◌≡◌, ◌∙◌}
+use mathlib.Core.Path.{◌≡◌, refl, ◌∙◌}
 use native.Mathlib.Decide.{dec_lt}
 use native.Mathlib.Nat.{le_trans}
 use native.Mathlib.Omega.{arith}
 use Rattle.booking.proofs.AdmissionLaws.{Admitted}
 use Rattle.booking.proofs.ShareLaws.{period_le_frame}
 use Rattle.booking.specs.Admission.{Table}
+use Rattle.booking.specs.Share.{booked}
+use Rattle.booking.specs.Sheet.{sheet_of, table_on}
 use Rattle.booking.specs.declared.Booking.{Booking}
 use Rattle.clock.specs.Clock.{moment}
 use Rattle.clock.specs.declared.Length.{Length}
-use Rattle.counting.proofs.PlacesLaws.{length_places, get_d_places, filled_none, filled_more}
+use Rattle.counting.proofs.PlacesLaws.{length_places, get_d_places, places_same, filled_none, filled_more}
 use Rattle.counting.specs.Places.{places}
 use Rattle.server.proofs.RangeLaws.{fresh_ranged}
 use Rattle.server.specs.Ranges.{Ranged}
@@ -74,3 +76,10 @@ admitted_within H t from to few admitted =
     (λ k h.
     let good = admitted.sound k h in
     fresh_ranged (t.booking k) (moment 0) good.budget good.fits (le_trans (period_le_frame H (t.booking k) good from) to))
+
+-- the sheet of a table tells all that a start asks of it: the first 64 bookings
+pub start_sheet : (H : Length) (t : Table) → at_start H (table_on (sheet_of H t)) ≡ at_start H t
+unfolding at_start
+start_sheet H t =
+    rw (places_same most_servers (start_at (table_on (sheet_of H t))) (start_at t)
+      (λ k h. rw (get_d_places most_servers t.booking k (booked 0 0) h) refl)) refl

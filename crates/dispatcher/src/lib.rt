@@ -6,15 +6,19 @@
 mod picking;
 
 ghost use Rattle.std.specs.Prelude.{◌≡◌, ◌<◌};
+ghost use Rattle.booking.specs.Sheet.{table_on};
 ghost use Rattle.sizes.specs.Sizes.{clock_end};
 ghost use Rattle.dispatcher.specs.Moves.{leaving, one_later, reply_says, arrival, tick, ran};
 ghost use Rattle.dispatcher.specs.Pick.{Earliest};
+ghost use Rattle.dispatcher.specs.Start.{at_start, start_at};
 ghost use Rattle.dispatcher.specs.Within.{Within};
 ghost use Rattle.refusal.specs.Refusals.{gave};
 
+use booking::Sheet;
 use clock::{Length, Moment};
 use refusal::Refusal;
 use server::Server;
+use std::array;
 
 #[derive(Clone, Copy)]
 pub struct Dispatcher {
@@ -43,6 +47,30 @@ pub enum Turn {
         deadline: Moment,
         postponed: bool,
     },
+}
+
+// The dispatcher of a booking sheet at its start, with a server for each booking of the table. Where the table is admitted it is within the
+// ranges of the moves (`admitted_within` of proofs/StartLaws.antt).
+pub fn at_start(sheet: Sheet) -> Dispatcher
+    ensures { result ≡ at_start sheet.frame (table_on sheet) }
+{
+    Dispatcher {
+        frame: sheet.frame,
+        count: sheet.count,
+        clock: Moment { tick: 0 },
+        servers: array::from_fn(|k| server_at_start(&sheet, k)),
+    }
+}
+
+// The server at place k then; behind those of the table a vacant one.
+fn server_at_start(sheet: &Sheet, k: usize) -> Server
+    ensures { result ≡ start_at (table_on sheet.now) k }
+{
+    if k < sheet.count {
+        server::fresh(sheet.bookings.get(k).copied().unwrap_or_default())
+    } else {
+        server::vacant()
+    }
 }
 
 // Work for one server at this moment of the clock: refused by 6 or 11, or else accepted.

@@ -1,22 +1,18 @@
 -- `opening::open_table` meets its promise: the answer is the judgement, and each of its two cases hands back its dispatcher.
-use mathlib.Core.Path.{sym, ◌∙◌, ap}
+use mathlib.Core.Path.{sym}
 use Rattle.dispatcher.proofs.MoveLaws.{and_within}
-use Rattle.refusal.specs.Refusals.{on_paper}
+use Rattle.dispatcher.proofs.StartLaws.{start_sheet}
 use Rattle.opening.proofs.OpeningLaws.{opening_accepted, opening_refused, opening_within}
 use Rattle.opening.proofs.open_table.Goals as goal
 
 pub returns-in-Ok : goal.returns-in-Ok
 returns-in-Ok c =
-    let told = ap on_paper c.in-Ok.is in
     let both =
     and_within (opening_within _ _)
-    (rw (told, c.start-dispatcher.ensures) (sym (opening_accepted _ _ (sym c.judge-answer.ensures ∙ told)))) in
+    (rw (c.at_start.ensures, c.in-Ok.ensures.1, start_sheet) (sym (opening_accepted _ _ c.in-Ok.ensures.0))) in
     record { result_value = both.0; within = both.1 }
 
 pub returns-in-Err : goal.returns-in-Err
 returns-in-Err c =
-    let told = ap on_paper c.in-Err.is in
-    let both =
-    and_within (opening_within _ _)
-    (rw (told, c.no_servers-dispatcher.ensures) (sym (opening_refused _ _ _ _ (sym c.judge-answer.ensures ∙ told)))) in
+    let both = and_within (opening_within _ _) (rw c.no_servers.ensures (sym (opening_refused _ _ _ _ c.in-Err.ensures))) in
     record { result_value = both.0; within = both.1 }
