@@ -2,20 +2,17 @@
 // it. The word `by-value` or `lent` chooses the form; with no word it ticks in both, one after the other.
 #![tactic(auto)]
 
-mod by_value;
+mod form;
 mod input;
-mod lent;
 mod say;
 mod tally;
 mod work;
 
-ghost use Rattle.std.specs.Prelude.{length, ◌≡◌};
-ghost use Rattle.sizes.specs.Sizes.{most_file};
-
+use form::{ByValue, Lent};
 use std::env::Env;
 
 fn main(rt: HostRuntime) {
-    let mut room = room_for_file();
+    let mut room = [0; sizes::MOST_FILE];
     let length = input::read_full(&mut rt.reader(), &mut room);
     play(&rt, &room[..length], letter(&rt));
 }
@@ -25,10 +22,10 @@ fn play(rt: &impl Print, file: &[u8], letter: u8) {
     let start = work::start(file);
     let count = work::horizon(file);
     if letter != b'l' {
-        say::all(rt, by_value::ticks(start, count));
+        say::all(rt, tally::ticks::<ByValue>(start, count));
     }
     if letter != b'b' {
-        say::all(rt, lent::ticks(start, count));
+        say::all(rt, tally::ticks::<Lent>(start, count));
     }
 }
 
@@ -37,11 +34,4 @@ fn letter(rt: &impl Env) -> u8 {
     let mut word = [0u8; 8];
     let _ = rt.arg(1, &mut word);
     word[0]
-}
-
-// As long as the longest work file. The contract gives the length, which lending the array needs.
-fn room_for_file() -> [u8; sizes::MOST_FILE]
-    ensures { most_file ≡ length result }
-{
-    [0; sizes::MOST_FILE]
 }

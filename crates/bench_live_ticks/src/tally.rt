@@ -1,12 +1,14 @@
 // What the answers of ticks come to.
 ghost use Rattle.std.specs.Prelude.{◌-◌, ◌^◌, ◌≡◌};
 ghost use Rattle.refusal.specs.Refusals.{on_paper};
-ghost use Rattle.bench_live_ticks.specs.Working.Ticks.{UpTo, counted};
+ghost use Rattle.dispatcher.specs.Within.{Within};
+ghost use Rattle.bench_live_ticks.specs.Working.Ticks.{UpTo, counted, tallied};
 
+use crate::form::Form;
 use dispatcher::{Dispatcher, Turn};
 use refusal::Refusal;
 
-#[derive(Clone, Copy)]
+#[derive(Clone, Copy, Default)]
 pub struct Tally {
     // How many ticks went to a server, and how many of those postponed it.
     pub ran: u64,
@@ -21,15 +23,24 @@ pub struct Tallied {
     pub dispatcher: Dispatcher,
 }
 
-// Of no ticks.
-pub(crate) const NONE: Tally = Tally {
-    ran: 0,
-    postponed: 0,
-    idle: 0,
-};
+// So many ticks of a form, from a dispatcher on.
+pub(crate) fn ticks<F: Form>(start: Dispatcher, count: u64) -> Tallied
+    requires { Within start }
+    ensures value { result ≡ tallied start count }
+    ensures within { Within result.dispatcher }
+{
+    let mut t = Tallied {
+        tally: Tally::default(),
+        dispatcher: start,
+    };
+    for _ in 0..count {
+        t.tally = with(t.tally, F::tick(&mut t.dispatcher));
+    }
+    t
+}
 
 // Of one tick more. A refused one does not count.
-pub(crate) fn with(mut t: Tally, answer: Result<Turn, Refusal>) -> Tally
+fn with(mut t: Tally, answer: Result<Turn, Refusal>) -> Tally
     requires { UpTo (2 ^ 64 - 2) t }
     ensures { result ≡ counted t (on_paper answer) }
 {
@@ -41,7 +52,7 @@ pub(crate) fn with(mut t: Tally, answer: Result<Turn, Refusal>) -> Tally
             postponed,
         }) => {
             t.ran += 1;
-            t.postponed += postponed as u64;
+            t.postponed += u64::from(postponed);
         }
         Err(_) => (),
     }

@@ -1,5 +1,4 @@
 // A work file as a dispatcher to tick: its table, the arrivals of moment 0, and its horizon.
-ghost use Rattle.std.specs.Prelude.{length, ◌≡◌};
 ghost use Rattle.dispatcher.specs.Within.{Within};
 ghost use Rattle.std.specs.Counts.{IsPrefixLen};
 
@@ -20,7 +19,7 @@ pub(crate) fn start(file: &[u8]) -> Dispatcher
     ensures { Within result }
 {
     let h = workfile::header_of(file);
-    let mut table = room_for_table();
+    let mut table = [0; NUMBERS];
     let numbers = lay(&mut table, file, h);
     let opened = opening::open_table(&table[..numbers], h.frame);
     take_arrivals(opened.dispatcher, file, h)
@@ -34,12 +33,10 @@ fn lay(table: &mut [u64], file: &[u8], h: Header) -> usize
     if table.len() / 2 < count {
         return 0;
     }
-    let mut k = 0;
-    while k < count {
+    for (k, pair) in table.chunks_exact_mut(2).take(count).enumerate() {
         let b = listing::booking_of(file, h, k);
-        table[2 * k] = b.budget.ticks;
-        table[2 * k + 1] = b.period.ticks;
-        k += 1;
+        pair[0] = b.budget.ticks;
+        pair[1] = b.period.ticks;
     }
     2 * count
 }
@@ -53,21 +50,12 @@ fn take_arrivals(mut d: Dispatcher, file: &[u8], h: Header) -> Dispatcher
     if sizes::MOST_ARRIVALS < count {
         return d;
     }
-    let mut k = 0;
-    while k < count {
+    for k in 0..count {
         let a = listing::arrival_of(file, h, k);
         if a.moment.tick == 0 {
             let taken = dispatcher::arrival(d, a.server, a.cost);
             d = taken.dispatcher;
         }
-        k += 1;
     }
     d
-}
-
-// The contract gives the length, which lending the array needs.
-fn room_for_table() -> [u64; NUMBERS]
-    ensures { 128 ≡ length result }
-{
-    [0; NUMBERS]
 }

@@ -20,17 +20,15 @@ pub struct Window {
 }
 
 // Whether a tick of a server under a deadline counts.
+#[tactic(auto, unfolding(demand_3::specs::Got::is_under))]
 pub(crate) fn counts(w: Window, server: usize, deadline: Moment) -> bool
     ensures { result ≡ is_under w.server w.to (given server deadline) }
 {
-    if w.server != server {
-        return false;
-    }
-    deadline.tick <= w.to.tick
+    w.server == server && deadline <= w.to
 }
 
 // The line of a window in which a booking's server got so many ticks.
-pub(crate) fn line(rt: &impl Print, form: &[u8], k: Booking, w: Window, got: u64)
+pub(crate) fn line(rt: &impl Print, form: &str, k: Booking, w: Window, got: u64)
     requires { Allowed k w got }
 {
     say::bandwidth(rt, form, w, got, whole(k, w, got), left(k, w, got));

@@ -48,7 +48,7 @@ fn line(rt: &impl Print, start: Dispatcher, i: usize, to: Moment)
                 from,
                 to,
             };
-            bandwidth::line(rt, b"live: ", booking_of(s), w, moves(start, w));
+            bandwidth::line(rt, "live", booking_of(s), w, moves(start, w));
         }
     }
 }
@@ -57,9 +57,10 @@ fn line(rt: &impl Print, start: Dispatcher, i: usize, to: Moment)
 fn booking_of(s: Server) -> Booking
     ensures { result ≡ booking_of s }
 {
-    let budget = s.budget;
-    let period = s.period;
-    Booking { budget, period }
+    Booking {
+        budget: s.budget,
+        period: s.period,
+    }
 }
 
 // What the window's server gets by File P's arrivals, (0, 0, 5), (0, 1, 3) and (6, 1, 2), and its 12 ticks.
@@ -81,15 +82,14 @@ fn round(start: Dispatcher, w: Window, server: usize, cost: Length, times: u64) 
     let mut d = start;
     let _ = live_loop::arrival(&mut d, server, cost);
     let mut got = 0;
-    let mut k = 0;
-    while k < times {
+    for _ in 0..times {
         got = with(got, w, live_loop::tick(&mut d));
-        k += 1;
     }
     Counted { got, dispatcher: d }
 }
 
 // A count with one tick more, where the window counts that.
+#[tactic(auto, unfolding(demand_3::specs::Got::is_under))]
 fn with(got: u64, w: Window, answer: Result<Turn, Refusal>) -> u64
     requires { got < last_tick }
     ensures { result ≡ got + cond (is_under w.server w.to (choice_of (on_paper answer))) 1 0 }
@@ -100,12 +100,7 @@ fn with(got: u64, w: Window, answer: Result<Turn, Refusal>) -> u64
             server,
             deadline,
             postponed: _,
-        }) => {
-            if bandwidth::counts(w, server, deadline) {
-                return got + 1;
-            }
-            got
-        }
+        }) => got + u64::from(bandwidth::counts(w, server, deadline)),
         Err(_) => got,
     }
 }

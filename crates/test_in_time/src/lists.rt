@@ -29,28 +29,24 @@ pub(crate) fn line(
     requires after_run { AfterRun file.now list.now segments finishes.now }
     requires tick_le_clock_end { w.to.tick ≤ clock_end }
 {
-    if is_in_run(file, w) {
-        if is_idle(file, finishes, w) {
-            bandwidth::line(
-                rt,
-                b"run: ",
-                booking_of(file, w.server),
-                w,
-                got(list, segments, w),
-            );
-        }
+    if is_in_run(file, w) && is_idle(file, finishes, w) {
+        bandwidth::line(
+            rt,
+            "run",
+            booking_of(file, w.server),
+            w,
+            got(list, segments, w),
+        );
     }
 }
 
 // Whether the file has the window's server, and is run to the window's start at least.
+#[tactic(auto, using(books::proofs::Accepted::horizon_read, books::proofs::Accepted::servers_read))]
 fn is_in_run(file: &[u8], w: Window) -> bool
     ensures { result ≡ in_run w (work file.now) }
 {
     let h = workfile::header_of(file);
-    if w.server >= h.servers.count {
-        return false;
-    }
-    w.from.tick <= h.horizon.tick
+    w.server < h.servers.count && w.from <= h.horizon
 }
 
 // Whether no job waits for the window's server at its start, by the finish list.
@@ -59,14 +55,11 @@ fn is_idle(file: &[u8], finishes: &[u32], w: Window) -> bool
     ensures { result ≡ all_done w (work file.now) finishes.now }
 {
     let h = workfile::header_of(file);
-    let jobs = h.arrivals.count;
-    let mut k = 0;
-    while k < jobs {
+    for k in 0..h.arrivals.count {
         let job = listing::arrival_of(file, h, k);
         if !is_done(w, job, finishes[k]) {
             return false;
         }
-        k += 1;
     }
     true
 }
@@ -75,13 +68,7 @@ fn is_idle(file: &[u8], finishes: &[u32], w: Window) -> bool
 fn is_done(w: Window, job: Arrival, finish: u32) -> bool
     ensures { result ≡ is_done w job finish }
 {
-    if job.server != w.server {
-        return true;
-    }
-    if w.from.tick <= job.moment.tick {
-        return true;
-    }
-    finish as u64 <= w.from.tick
+    job.server != w.server || w.from <= job.moment || u64::from(finish) <= w.from.tick
 }
 
 // The booking of a server.
@@ -100,11 +87,9 @@ fn got(list: &[u64], segments: usize, w: Window) -> u64
 {
     let held = held(list, segments);
     let mut sum = 0;
-    let mut k = 0;
-    while k < held {
+    for k in 0..held {
         let s = trace::segment_at(list, k);
         sum += got_of(w, s);
-        k += 1;
     }
     sum
 }
@@ -113,8 +98,7 @@ fn got(list: &[u64], segments: usize, w: Window) -> u64
 pub(crate) fn held(list: &[u64], count: usize) -> usize
     ensures { result ≡ fitting count list.now }
 {
-    let room = list.len() / 4;
-    if count < room { count } else { room }
+    count.min(list.len() / 4)
 }
 
 // What it got by one segment.
@@ -129,8 +113,5 @@ fn got_of(w: Window, s: Segment) -> u64
         tick: s.start.tick + s.length.ticks,
     };
     let since = clock::until(w.from, end);
-    if s.length.ticks < since.ticks {
-        return s.length.ticks;
-    }
-    since.ticks
+    s.length.min(since).ticks
 }

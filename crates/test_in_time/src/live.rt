@@ -48,10 +48,8 @@ fn ticks(rt: &impl Print, d: Dispatcher, times: u64) -> Dispatcher
     ensures { Live result }
 {
     let mut at = d;
-    let mut left = times;
-    while left > 0 {
+    for _ in 0..times {
         at = tick(rt, at);
-        left -= 1;
     }
     at
 }

@@ -1,6 +1,6 @@
 // Runs File P as a work file, and writes what its trace leaves: for each segment, how many ticks were left to its deadline when it ended, and
 // of a server's bandwidth.
-ghost use Rattle.std.specs.Prelude.{◌*◌, length, ◌≡◌};
+ghost use Rattle.std.specs.Prelude.{◌≡◌};
 ghost use Rattle.callers.specs.Traces.{InTime};
 ghost use Rattle.test_in_time.specs.Working.Lists.{AfterRun};
 ghost use Rattle.test_in_time.specs.Working.Segments.{AllInTime};
@@ -21,13 +21,9 @@ pub(crate) fn file_p(rt: &impl Print) {
 }
 
 // Writes numbers into the bytes of a file, whose other bytes are 0: a number of a file has 32 bits, low byte first.
-fn lay(numbers: &[u8], file: &mut [u8])
-    requires { length file.old ≡ 4 * length numbers.now }
-{
-    let mut k = 0;
-    while k < numbers.len() {
-        file[4 * k] = numbers[k];
-        k += 1;
+fn lay(numbers: &[u8], file: &mut [u8]) {
+    for (word, number) in file.chunks_exact_mut(4).zip(numbers) {
+        word[0] = *number;
     }
 }
 
@@ -54,11 +50,8 @@ fn lines(rt: &impl Print, file: &[u8], list: &[u64], count: usize, finishes: &[u
 fn segments(rt: &impl Print, list: &[u64], count: usize)
     requires { AllInTime count list.now }
 {
-    let held = lists::held(list, count);
-    let mut k = 0;
-    while k < held {
+    for k in 0..lists::held(list, count) {
         segment(rt, k, trace::segment_at(list, k));
-        k += 1;
     }
 }
 

@@ -3,12 +3,14 @@
 // tables that are only opened show the refusals of a live table. What it writes is held to the file `stdout`.
 #![tactic(auto)]
 
-mod by_value;
-mod lent;
+mod form;
+mod play;
 mod say;
 mod script;
 
 use clock::Length;
+use form::{ByValue, Lent};
+use play::play;
 use script::TICK;
 
 fn main(rt: HostRuntime) {
@@ -33,10 +35,10 @@ fn both(rt: &impl Print, table: &[u64], frame: u64, list: &[u64]) {
     let start = opened.dispatcher;
     let count = script::count(list);
     say::opening(rt, frame, table.len(), answer);
-    say::line(rt, b"lent:");
-    say::servers(rt, lent::play(rt, start, list, count));
-    say::line(rt, b"by value:");
-    say::servers(rt, by_value::play(rt, start, list, count));
+    say::line(rt, "lent:");
+    say::servers(rt, play::<Lent>(rt, start, list, count));
+    say::line(rt, "by value:");
+    say::servers(rt, play::<ByValue>(rt, start, list, count));
 }
 
 // Opens the table, and writes its dispatcher.
@@ -49,41 +51,41 @@ fn opened(rt: &impl Print, table: &[u64], frame: u64) {
 
 // File P: H 10, N 12, servers (2, 5) and (3, 5), arrivals (0, 0, 5), (0, 1, 3), (6, 1, 2).
 fn file_p(rt: &impl Print) {
-    say::line(rt, b"File P");
+    say::line(rt, "File P");
     let moves = [0, 5, 1, 1, 3, 1, TICK, 0, 6, 1, 2, 1, TICK, 0, 6];
     both(rt, &[2, 5, 3, 5], 10, &moves);
 }
 
 // Server (2, 6) with c 1 and d 6 keeps them at 2, as 6 < 8, renews at 3, as 6 = 6, and renews when its deadline has passed.
 fn waking(rt: &impl Print) {
-    say::line(rt, b"waking early");
+    say::line(rt, "waking early");
     both(rt, &[2, 6], 6, &[0, 1, 1, TICK, 0, 2, 0, 1, 1]);
-    say::line(rt, b"waking at equality");
+    say::line(rt, "waking at equality");
     both(rt, &[2, 6], 6, &[0, 1, 1, TICK, 0, 3, 0, 1, 1]);
-    say::line(rt, b"waking late");
+    say::line(rt, "waking late");
     both(rt, &[2, 6], 6, &[0, 1, 1, TICK, 0, 9, 0, 1, 1]);
 }
 
 // 2 for the frame, at its edges.
 fn frames(rt: &impl Print) {
-    say::line(rt, b"tables with no server");
+    say::line(rt, "tables with no server");
     opened(rt, &[], 1);
     opened(rt, &[], 604800);
     opened(rt, &[], 0);
     opened(rt, &[], 604801);
-    opened(rt, &[], 18446744073709551615);
+    opened(rt, &[], u64::MAX);
 }
 
 // 2 for the count of numbers.
 fn odd_lists(rt: &impl Print) {
-    say::line(rt, b"an odd count of numbers");
+    say::line(rt, "an odd count of numbers");
     opened(rt, &[1], 1);
     opened(rt, &[1, 1, 1], 1);
 }
 
 // 4 for each fault, and at a place other than 0.
 fn faulty_servers(rt: &impl Print) {
-    say::line(rt, b"a faulty server");
+    say::line(rt, "a faulty server");
     opened(rt, &[1, 0], 20);
     opened(rt, &[1, 3], 20);
     opened(rt, &[0, 4], 20);
@@ -93,33 +95,32 @@ fn faulty_servers(rt: &impl Print) {
 
 // 5 at its edge, and 4 before it.
 fn shares(rt: &impl Print) {
-    say::line(rt, b"shares of 20 and of 21");
+    say::line(rt, "shares of 20 and of 21");
     opened(rt, &[1, 4, 3, 10, 9, 20], 20);
     opened(rt, &[1, 4, 3, 10, 10, 20], 20);
-    say::line(rt, b"a faulty server behind shares that are too large");
+    say::line(rt, "a faulty server behind shares that are too large");
     opened(rt, &[20, 20, 20, 20, 0, 20], 20);
-    say::line(rt, b"the largest numbers");
-    let most = 18446744073709551615;
-    opened(rt, &[most, most], 20);
+    say::line(rt, "the largest numbers");
+    opened(rt, &[u64::MAX, u64::MAX], 20);
 }
 
 // 5 at its edge with the longest frame: full, and a tick over at the first, the middle and the last server; 4 behind an overrun.
 fn longest_frame(rt: &impl Print) {
     say::line(
         rt,
-        b"H 604800: full, and a tick over at the first, the middle and the last server",
+        "H 604800: full, and a tick over at the first, the middle and the last server",
     );
     opened(rt, &[201600, 604800, 201600, 604800, 1, 3], 604800);
     opened(rt, &[201601, 604800, 201600, 604800, 1, 3], 604800);
     opened(rt, &[201600, 604800, 201601, 604800, 1, 3], 604800);
     opened(rt, &[1, 3, 201600, 604800, 201601, 604800], 604800);
-    say::line(rt, b"H 604800: a faulty server behind the overrun");
+    say::line(rt, "H 604800: a faulty server behind the overrun");
     opened(rt, &[1, 1, 1, 604800, 1, 3, 1, 604801], 604800);
 }
 
 // 64 servers, at the last of which work waits first; equal deadlines go to the lower number. 65 are too many.
 fn many_servers(rt: &impl Print) {
-    say::line(rt, b"64 servers and 65");
+    say::line(rt, "64 servers and 65");
     let mut table = [64; 128];
     budgets_of_one(&mut table);
     let moves = [63, 2, 1, TICK, 0, 1, 7, 1, 1, 5, 1, 1, TICK, 0, 4, 64, 1, 1];
@@ -134,7 +135,7 @@ fn many_servers(rt: &impl Print) {
 fn many_shares(rt: &impl Print) {
     say::line(
         rt,
-        b"64 servers: a tick over at the first, a middle and the last server",
+        "64 servers: a tick over at the first, a middle and the last server",
     );
     let mut table = [64; 128];
     budgets_of_one(&mut table);
@@ -146,7 +147,7 @@ fn many_shares(rt: &impl Print) {
     table[62] = 1;
     table[126] = 2;
     opened(rt, &table, 64);
-    say::line(rt, b"64 servers: a faulty server behind the overrun");
+    say::line(rt, "64 servers: a faulty server behind the overrun");
     table[2] = 64;
     table[126] = 0;
     opened(rt, &table, 64);
@@ -154,43 +155,39 @@ fn many_shares(rt: &impl Print) {
 
 // A list of pairs with every Q set to 1.
 fn budgets_of_one(table: &mut [u64]) {
-    let pairs = table.len() / 2;
-    let mut k = 0;
-    while k < pairs {
-        table[2 * k] = 1;
-        k += 1;
+    for pair in table.chunks_exact_mut(2) {
+        pair[0] = 1;
     }
 }
 
 // 6 for the server and for the cost, at their edges.
 fn faulty_arrivals(rt: &impl Print) {
-    say::line(rt, b"an unknown server");
-    let most = 18446744073709551615;
-    both(rt, &[1, 5], 5, &[1, 1, 1, most, 1, 1]);
-    say::line(rt, b"costs out of range and in it");
-    both(rt, &[1, 5], 5, &[0, 0, 1, 0, 604801, 1, 0, most, 1]);
+    say::line(rt, "an unknown server");
+    both(rt, &[1, 5], 5, &[1, 1, 1, u64::MAX, 1, 1]);
+    say::line(rt, "costs out of range and in it");
+    both(rt, &[1, 5], 5, &[0, 0, 1, 0, 604801, 1, 0, u64::MAX, 1]);
     both(rt, &[1, 5], 5, &[0, 604800, 1, 0, 1, 1]);
 }
 
 // What a refused opening hands back takes moves too.
 fn after_a_refusal(rt: &impl Print) {
-    say::line(rt, b"moves after a refused opening");
+    say::line(rt, "moves after a refused opening");
     both(rt, &[1], 5, &[0, 1, 1, TICK, 0, 1]);
 }
 
 // 11: a server filled to 4,294,967,295 refuses a cost of 1, and takes it again once a tick is served.
 fn full_server(rt: &impl Print) {
-    say::line(rt, b"a full server");
+    say::line(rt, "a full server");
     let filled = [0, 604800, 7101, 0, 282496, 1, 0, 282495, 1, 0, 1, 1];
     both(rt, &[1, 5], 5, &filled);
-    say::line(rt, b"a full server that is served");
+    say::line(rt, "a full server that is served");
     let served = [0, 604800, 7101, 0, 282495, 1, TICK, 0, 1, 0, 1, 2];
     both(rt, &[1, 5], 5, &served);
 }
 
 // 10: no tick beyond 2,419,200, where an arrival is still taken.
 fn clock_end(rt: &impl Print) {
-    say::line(rt, b"the end of the clock");
+    say::line(rt, "the end of the clock");
     both(
         rt,
         &[1, 5, 2, 10],

@@ -25,11 +25,9 @@ pub enum Move {
 
 // How many moves the list has. The sum wraps where 64 bits end, which no list here reaches.
 pub(crate) fn count(list: &[u64]) -> u64 {
-    let mut moves = 0;
-    let mut at = 0;
-    while at + 2 < list.len() {
-        moves = std::num::wrapping_add_u64(moves, list[at + 2]);
-        at += 3;
+    let mut moves = 0u64;
+    for of in list.chunks_exact(3) {
+        moves = moves.wrapping_add(of[2]);
     }
     moves
 }
@@ -39,14 +37,12 @@ pub(crate) fn nth(list: &[u64], k: u64) -> Move
     ensures { result ≡ move_at list.now k }
 {
     let mut left = k;
-    let mut at = 0;
-    while at + 2 < list.len() {
-        let times = list[at + 2];
+    for of in list.chunks_exact(3) {
+        let (what, cost, times) = (of[0], of[1], of[2]);
         if left < times {
-            return one(list[at], list[at + 1], times - left <= WRITTEN);
+            return one(what, cost, times - left <= WRITTEN);
         }
         left -= times;
-        at += 3;
     }
     Move::Tick { written: true }
 }

@@ -17,7 +17,7 @@ each w list j = got_of w (segment_in list j)
 
 pub loop-k-init : goal.loop-k-init
 unfolding sum
-loop-k-init c = (omega arith, refl)
+loop-k-init c = refl
 
 pub got_of-sum-requires : goal.got_of-sum-requires
 got_of-sum-requires c =
@@ -30,17 +30,15 @@ overflow_add-sum c =
     let held = fitting c.args.segments c.args.list.now in
     let below : c.loop-k.k < held = omega (arith, c.loop-k-test.true, c.held-held.ensures) in
     let one = c.got_of-sum.ensures ∙ ap (got_of c.args.w) c.segment_at-s.ensures in
-    omega (arith, sum_next_small f c.loop-k.invariant.1 one held below, c.requires.list_bound)
+    omega (arith, sum_next_small f c.loop-k.invariant one held below, c.requires.list_bound)
 
 pub loop-k-preserved : goal.loop-k-preserved
 loop-k-preserved c =
-    let one = c.got_of-sum.ensures ∙ ap (got_of c.args.w) c.segment_at-s.ensures in (
-      omega (arith, c.loop-k-test.true),
-      sum_next (each c.args.w c.args.list.now) c.loop-k.invariant.1 one,
-    )
+    let one = c.got_of-sum.ensures ∙ ap (got_of c.args.w) c.segment_at-s.ensures in
+    sum_next (each c.args.w c.args.list.now) c.loop-k.invariant one
 
 pub returns : goal.returns
 returns c =
-    c.loop-k.invariant.1
+    c.loop-k.invariant
     ∙ ap (λ (n : ℕ). sum n (each c.args.w c.args.list.now))
-    (omega (arith, c.loop-k-test.false, c.loop-k.invariant.0, c.held-held.ensures))
+    (omega (arith, c.loop-k-test.false, c.held-held.ensures))

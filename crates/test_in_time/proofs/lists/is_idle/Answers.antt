@@ -20,7 +20,7 @@ done w file ends j = is_done w ((work file).arrival j) (get_or ends j 0)
 
 pub loop-k-init : goal.loop-k-init
 unfolding every
-loop-k-init c = (omega arith, refl)
+loop-k-init c = refl
 
 -- job k is one of the file's, which has few, and has its place in the finish list
 pub offset_bounds-finishes-k : goal.offset_bounds-finishes-k
@@ -36,19 +36,14 @@ returns-then-not-is_done c =
     let one = c.is_done.ensures ∙ ap (λ (job : Arrival). is_done c.args.w job (get_or c.args.finishes.now c.loop-k.k 0)) job in
     sym (every_fails _ (done c.args.w c.args.file.now c.args.finishes.now) c.loop-k.k here (sym one ∙ c.if-not-is_done.true))
 
-pub overflow_add-k : goal.overflow_add-k
-overflow_add-k c = omega (arith, arrivals_read _ c.header_of-h.ensures, c.requires.arrivals)
-
 pub loop-k-preserved : goal.loop-k-preserved
 loop-k-preserved c =
     let job = c.arrival_of-job.ensures ∙ arrival_read _ c.header_of-h.ensures _ in
-    let one = c.is_done.ensures ∙ ap (λ (job : Arrival). is_done c.args.w job (get_or c.args.finishes.now c.loop-k.k 0)) job in (
-      omega (arith, c.loop-k-test.true),
-      every_next c.loop-k.k (done c.args.w c.args.file.now c.args.finishes.now) c.loop-k.invariant.1 (sym one ∙ c.if-not-is_done.false),
-    )
+    let one = c.is_done.ensures ∙ ap (λ (job : Arrival). is_done c.args.w job (get_or c.args.finishes.now c.loop-k.k 0)) job in
+    every_next c.loop-k.k (done c.args.w c.args.file.now c.args.finishes.now) c.loop-k.invariant (sym one ∙ c.if-not-is_done.false)
 
 pub returns : goal.returns
 returns c =
     let all : c.loop-k.k ≡ (work c.args.file.now).arrivals
-    = omega (arith, c.loop-k-test.false, c.loop-k.invariant.0, arrivals_read _ c.header_of-h.ensures) in
-    sym c.loop-k.invariant.1 ∙ ap (λ (n : ℕ). every n (done c.args.w c.args.file.now c.args.finishes.now)) all
+    = omega (arith, c.loop-k-test.false, arrivals_read _ c.header_of-h.ensures) in
+    sym c.loop-k.invariant ∙ ap (λ (n : ℕ). every n (done c.args.w c.args.file.now c.args.finishes.now)) all

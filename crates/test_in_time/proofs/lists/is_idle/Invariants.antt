@@ -1,5 +1,4 @@
 -- `test_in_time::lists::is_idle` meets its promise: after k turns none of the first k jobs waits, and the first that does is enough.
-use Prim.Native.Nat.{◌-◌, ◌≤◌}
 use lib.ListN.{get_or}
 use mathlib.Core.Bool.{true}
 use mathlib.Core.Path.{◌≡◌}
@@ -9,7 +8,4 @@ use Rattle.test_in_time.specs.Working.Lists.{is_done}
 use Rattle.test_in_time.proofs.lists.is_idle.Given as goal
 
 abbrev pub invariant-loop-k : goal.invariant-loop-k
-invariant-loop-k l = (l.k ≤ l.jobs) × (every l.k (λ j. is_done l.w ((work l.file).arrival j) (get_or l.finishes j 0)) ≡ true)
-
-abbrev pub decreases-loop-k : goal.decreases-loop-k
-decreases-loop-k l = l.jobs - l.k
+invariant-loop-k l = every l.k (λ j. is_done l.w ((work l.file).arrival j) (get_or l.finishes j 0)) ≡ true

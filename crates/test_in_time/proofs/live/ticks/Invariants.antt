@@ -2,8 +2,5 @@
 use Rattle.test_in_time.specs.Working.Live.{Live}
 use Rattle.test_in_time.proofs.live.ticks.Given as goal
 
-abbrev pub invariant-loop-left : goal.invariant-loop-left
-invariant-loop-left g l = Live l.at
-
-abbrev pub decreases-loop-left : goal.decreases-loop-left
-decreases-loop-left g l = l.left
+abbrev pub invariant-loop : goal.invariant-loop
+invariant-loop g l = Live l.at
