@@ -3,12 +3,12 @@
 // array, which is handed on and back by value.
 #![tactic(auto)]
 
-ghost use Rattle.std.specs.Prelude.{◌≡◌, ◌+◌, ◌≤◌, ◌<◌, max, min, get_or};
+ghost use Rattle.std.specs.Prelude.{◌≡◌, ◌+◌, ◌≤◌, min, get_or};
 ghost use Rattle.clock.specs.Clock.{last_tick};
 ghost use Rattle.sizes.specs.Sizes.{most_servers, open_job};
 ghost use Rattle.summary.proofs.SummaryLaws.{total_of, with_response};
 ghost use Rattle.workfile.specs.Work.{work, work_under};
-ghost use Rattle.records.specs.Working.Job.{filled, finish_by, is_open_at, with_counts, Roomy, records_up_to, with_job};
+ghost use Rattle.records.specs.Working.Job.{filled, finish_by, is_open_at, Roomy, records_up_to, with_job};
 ghost use Rattle.records.specs.Records.{records_of};
 
 use clock::{Length, Moment};
@@ -25,7 +25,7 @@ pub fn of_run(
     ensures { result ≡ records_of (work file.now) finishes.now postponed.now interrupted.now }
 {
     let h = workfile::header_of(file);
-    let servers = least(h.servers.count, sizes::MOST_SERVERS);
+    let servers = h.servers.count.min(sizes::MOST_SERVERS);
     fill(
         of_arrivals(file, h, servers, finishes),
         servers,
@@ -45,17 +45,14 @@ fn of_arrivals(
     requires count_le_open_job { h.arrivals.count ≤ open_job }
     ensures { result ≡ records_up_to (work_under h file.now) finishes.now h.arrivals.count }
 {
-    let m = h.arrivals.count;
     let mut records = summary::blank_records();
-    let mut k = 0;
-    while k < m {
+    for k in 0..h.arrivals.count {
         let a = listing::arrival_of(file, h, k);
         let i = a.server;
         if i < servers {
             let s = with_job(records[i], a.moment, finish_in(finishes, k));
             records = summary::with_record(records, i, s);
         }
-        k += 1;
     }
     records
 }
@@ -64,10 +61,7 @@ fn of_arrivals(
 fn finish_in(finishes: &[u32], k: usize) -> u32
     ensures { result ≡ get_or finishes.now k open_job }
 {
-    if k < finishes.len() {
-        return finishes[k];
-    }
-    sizes::OPEN_JOB
+    finishes.get(k).copied().unwrap_or(sizes::OPEN_JOB)
 }
 
 // A record with one job more, which came then and for which the list has `finish`: an open one has arrived, any other has finished too.
@@ -76,35 +70,25 @@ fn with_job(s: Summary, came: Moment, finish: u32) -> Summary
     ensures { result ≡ with_job s came (finish_by came finish) }
 {
     let arrived = s.arrived + 1;
-    let before = s.response;
-    let end = finish as u64;
+    let end = Moment {
+        tick: u64::from(finish),
+    };
     if is_open(came, end) {
-        return Summary {
-            arrived,
-            finished: s.finished,
-            postponed: s.postponed,
-            interrupted: s.interrupted,
-            response: before,
-        };
+        return Summary { arrived, ..s };
     }
-    let finished = s.finished + 1;
     Summary {
         arrived,
-        finished,
-        postponed: s.postponed,
-        interrupted: s.interrupted,
-        response: with_response(before, clock::until(came, Moment { tick: end })),
+        finished: s.finished + 1,
+        response: with_response(s.response, clock::until(came, end)),
+        ..s
     }
 }
 
 // Whether what the list has is no finish of a job that came then: an open job's number, or one that is not after it, as 0.
-fn is_open(came: Moment, finish: u64) -> bool
-    ensures { result ≡ is_open_at came finish }
+fn is_open(came: Moment, finish: Moment) -> bool
+    ensures { result ≡ is_open_at came finish.tick }
 {
-    if finish <= came.tick {
-        return true;
-    }
-    finish == sizes::OPEN_JOB as u64
+    finish <= came || finish.tick == u64::from(sizes::OPEN_JOB)
 }
 
 // The response over one job more.
@@ -122,22 +106,13 @@ fn with_response(before: Response, lasted: Length) -> Response
         total: Length {
             ticks: total.ticks + lasted.ticks,
         },
-        longest: longer(longest, lasted),
+        longest: longest.max(lasted),
     }
-}
-
-fn longer(a: Length, b: Length) -> Length
-    ensures { result.ticks ≡ max a.ticks b.ticks }
-{
-    if a.ticks < b.ticks {
-        return b;
-    }
-    a
 }
 
 // The records, those of the first servers with the counts that were kept beside them.
 fn fill(
-    records: [Summary; sizes::MOST_SERVERS],
+    mut records: [Summary; sizes::MOST_SERVERS],
     servers: usize,
     postponed: &[u64; sizes::MOST_SERVERS],
     interrupted: &[u64; sizes::MOST_SERVERS],
@@ -145,38 +120,13 @@ fn fill(
     requires { servers ≤ most_servers }
     ensures { result ≡ filled servers postponed.now interrupted.now records }
 {
-    let mut all = records;
-    let mut i = 0;
-    while i < servers {
-        let s = with_counts(all[i], count_at(postponed, i), count_at(interrupted, i));
-        all = summary::with_record(all, i, s);
-        i += 1;
+    for i in 0..servers {
+        let s = Summary {
+            postponed: postponed[i],
+            interrupted: interrupted[i],
+            ..records[i]
+        };
+        records = summary::with_record(records, i, s);
     }
-    all
-}
-
-// A record with its two counts.
-fn with_counts(s: Summary, postponed: u64, interrupted: u64) -> Summary
-    ensures { result ≡ with_counts s postponed interrupted }
-{
-    let mut counted = s;
-    counted.postponed = postponed;
-    counted.interrupted = interrupted;
-    counted
-}
-
-fn least(a: usize, b: usize) -> usize
-    ensures { result ≡ min a b }
-{
-    if a < b {
-        return a;
-    }
-    b
-}
-
-fn count_at(counts: &[u64; sizes::MOST_SERVERS], i: usize) -> u64
-    requires { i < most_servers }
-    ensures { result ≡ get_or counts.now i 0 }
-{
-    counts[i]
+    records
 }

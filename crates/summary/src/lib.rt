@@ -7,14 +7,17 @@ ghost use Rattle.summary.specs.Summary.{blank};
 
 use clock::Length;
 
-// How long the jobs of a server took that have finished. A mean is the total over their count.
-#[derive(Clone, Copy)]
+// How long the jobs of a server took that have finished. A mean is the total over their count. (Document 01 names this enum, so it is no
+// `Option` of a pair.)
+#[derive(Clone, Copy, Default)]
 pub enum Response {
+    #[default]
     Absent,
     Over { total: Length, longest: Length },
 }
 
-#[derive(Clone, Copy)]
+// The record of one server; by default a blank one.
+#[derive(Clone, Copy, Default)]
 pub struct Summary {
     pub arrived: u64,
     pub finished: u64,
@@ -28,29 +31,14 @@ pub struct Summary {
 pub fn interrupted_by(server: usize, waits: Length, next: usize) -> bool
     ensures { result ≡ (ltb server most_servers && ltb next most_servers && ltb 0 waits.ticks && not (eqb server next)) }
 {
-    if server >= sizes::MOST_SERVERS {
-        return false;
-    }
-    if next >= sizes::MOST_SERVERS {
-        return false;
-    }
-    if waits.ticks == 0 {
-        return false;
-    }
-    server != next
+    server < sizes::MOST_SERVERS && next < sizes::MOST_SERVERS && 0 < waits.ticks && server != next
 }
 
 // 64 blank records.
 pub fn blank_records() -> [Summary; sizes::MOST_SERVERS]
     ensures { result ≡ replicate most_servers blank }
 {
-    [Summary {
-        arrived: 0,
-        finished: 0,
-        postponed: 0,
-        interrupted: 0,
-        response: Response::Absent,
-    }; sizes::MOST_SERVERS]
+    [Summary::default(); sizes::MOST_SERVERS]
 }
 
 // The records with another one at place i; there is none to change where i is no place.
@@ -61,6 +49,7 @@ pub fn with_record(
 ) -> [Summary; sizes::MOST_SERVERS]
     ensures { result ≡ set records i s }
 {
+    // Not by `get_mut`: the library says nothing of what the array then ends as, so the proof would not close.
     if i < sizes::MOST_SERVERS {
         records[i] = s;
     }

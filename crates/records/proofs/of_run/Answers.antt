@@ -31,12 +31,12 @@ held file e = ap (λ (h : Header). min h.servers.count most_servers) e
 pub of_arrivals-requires : goal.of_arrivals-requires
 of_arrivals-requires c =
     record {
-      servers_value = c.least-servers.ensures;
+      servers_value = c.min-servers.ensures;
       count_le_open_job = few _ c.header_of-h.ensures (λ i. omega (arith, c.type_inv.file i));
     }
 
 pub fill-requires : goal.fill-requires
-fill-requires c = omega (arith, c.least-servers.ensures)
+fill-requires c = omega (arith, c.min-servers.ensures)
 
 pub returns : goal.returns
 returns c =
@@ -44,6 +44,6 @@ returns c =
     let read = c.header_of-h.ensures in
     c.fill.ensures
     ∙ ap₂ (λ (n : ℕ) (l : List Summary). filled n a.postponed.now a.interrupted.now l)
-    (c.least-servers.ensures ∙ held a.file.now read)
+    (c.min-servers.ensures ∙ held a.file.now read)
     (c.of_arrivals.ensures ∙ all a.file.now a.finishes.now read)
     ∙ records_all (work a.file.now) a.finishes.now a.postponed.now a.interrupted.now

@@ -7,16 +7,20 @@ use Rattle.records.proofs.with_job.Goals as goal
 
 pub returns-then-is_open : goal.returns-then-is_open
 unfolding with_job
-returns-then-is_open c = rw (finish_by_open _ _ (sym c.is_open.ensures ∙ c.if-is_open.true))
+returns-then-is_open c =
+    let told = rw c.from.ensures at (sym c.is_open.ensures ∙ c.if-is_open.true) in
+    rw (finish_by_open c.args.came c.args.finish told)
 
 pub with_response-requires : goal.with_response-requires
-with_response-requires c = rw c.until.ensures (omega (arith, c.requires.total))
+with_response-requires c = rw (c.until.ensures, c.from.ensures) (omega (arith, c.requires.total))
 
 pub returns : goal.returns
 unfolding with_job
 returns c =
+    let told = rw c.from.ensures at (sym c.is_open.ensures ∙ c.if-is_open.false) in
     rw (
       c.with_response.ensures,
       c.until.ensures,
-      finish_by_at _ _ (sym c.is_open.ensures ∙ c.if-is_open.false),
+      c.from.ensures,
+      finish_by_at c.args.came c.args.finish told,
     )

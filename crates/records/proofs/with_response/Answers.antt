@@ -1,7 +1,8 @@
 -- `records::with_response` meets its promise: its two cases are those of the definition.
-use Prim.Native.Nat.{ℕ, ◌+◌}
+use Prim.Native.Nat.{◌+◌}
 use mathlib.Core.Path.{sym, ◌∙◌, ap}
 use native.Mathlib.Omega.{arith}
+use Rattle.clock.proofs.OrderLaws.{longer_is}
 use Rattle.clock.specs.Clock.{ticks}
 use Rattle.summary.specs.declared.Response.TheVariants.{Over}
 use Rattle.summary.proofs.SummaryLaws.{total_of, total_over, with_response_first, with_response_more}
@@ -20,5 +21,4 @@ returns c =
     let total = c.in-Over.total in
     let lasted = c.args.lasted in
     rw c.in-Over.is
-    (ap (λ (n : ℕ). Over (ticks (total.ticks + lasted.ticks)) (ticks n)) c.longer.ensures
-    ∙ sym (with_response_more total c.in-Over.longest lasted.ticks))
+    (ap (Over (ticks (total.ticks + lasted.ticks))) (c.max.ensures ∙ longer_is _ _) ∙ sym (with_response_more total c.in-Over.longest lasted.ticks))
