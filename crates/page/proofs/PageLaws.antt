@@ -132,15 +132,16 @@ module _ {A : Type 0} where
       past : (l : List A) (n : ℕ) → length l ≤ n → drop n l ≡ []
       past l n h = drop_of_length-le l {i = n} h
 
-  -- what is added from the start on lies within the list
-  pub added_within : (m before after : List A) (next : ℕ) → page after next ≡ added m (page before 0) → next ≤ length after
+  -- where the next place lies within the list, it still does when more was added
+  pub added_within : (m : List A) (p : Page A) {q : Page A} → q ≡ added m p → p.next ≤ length p.list → q.next ≤ length q.list
   unfolding added
-  added_within m before after next e =
+  added_within m p e within =
       omega (
         arith,
-        ap (λ (p : Page A). p.next) e,
-        ap (λ (p : Page A). length p.list) e,
-        laid_length m before 0,
+        within,
+        ap (λ (r : Page A). r.next) e,
+        ap (λ (r : Page A). length r.list) e,
+        laid_length m p.list p.next,
       )
 
   -- and where there is room for all of it, it is what the list then begins with

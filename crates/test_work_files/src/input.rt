@@ -7,6 +7,7 @@ use std::io::Read;
 pub(crate) fn read_full<R: Read>(input: &mut R, room: &mut [u8]) -> usize
     ensures { IsPrefixLen result room.new }
 {
+    // Of the library only `read_exact` needs no heap, and it tells no count where the input ends. No `for`: a turn goes on by what was read.
     let mut done = 0;
     while done < room.len() {
         match input.read(&mut room[done..]) {

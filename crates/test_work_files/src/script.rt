@@ -1,133 +1,51 @@
 // The numbers of a script: decimal, with blanks and line ends between them, and comments from `#` to the end of the line.
-ghost use Rattle.std.specs.Prelude.{◌≤◌, length};
+ghost use Rattle.std.specs.Prelude.{IfOk};
 ghost use Rattle.std.specs.Counts.{IsPrefixLen};
 
-// No number of a script is larger.
-const MOST: u64 = 4294967295;
+use crate::fault::Fault;
+use page::Page;
 
-// What the bytes read so far end in. A fault is a byte that no script has, or a number that is too large.
+// What the bytes read so far end in.
 #[derive(Clone, Copy)]
-enum Place {
+enum Reading {
     Between,
-    Number,
+    // Digits, and what they come to so far.
+    Number(u32),
     Comment,
-    Fault,
 }
 
-#[derive(Clone, Copy)]
-struct Reading {
-    place: Place,
-    // What the digits of a number come to so far, 0 outside of one.
-    value: u64,
-}
-
-#[derive(Clone, Copy)]
-pub(crate) struct Read {
-    // How many numbers the script has.
-    pub count: usize,
-    pub faulty: bool,
-}
-
-// Puts the numbers of a script into the list in turn.
-pub(crate) fn numbers(text: &[u8], list: &mut [u64]) -> Read
-    ensures { IsPrefixLen result.count list.new }
+// Puts the numbers of a script into the list in turn, as many as it has places, and answers how many it then has.
+pub(crate) fn numbers(text: &[u8], list: &mut [u32]) -> Result<usize, Fault>
+    ensures { IfOk result (λ n. IsPrefixLen n list.new) }
 {
-    let mut reading = outside(Place::Between);
-    let mut count = 0;
-    let mut k = 0;
-    while k < text.len() {
-        let next = step(reading, text[k]);
-        count = ended(list, count, reading, next);
+    let mut numbers = Page { list, next: 0 };
+    let mut reading = Reading::Between;
+    for &byte in text.iter().chain(b"\n") {
+        let next = step(reading, byte)?;
+        if let (Reading::Number(n), Reading::Between | Reading::Comment) = (reading, next) {
+            numbers.add(n);
+        }
         reading = next;
-        k += 1;
     }
-    let last = step(reading, b'\n');
-    count = ended(list, count, reading, last);
-    Read {
-        count,
-        faulty: is_fault(last),
-    }
-}
-
-// Adds a number to the list where one has ended, unless the list is full. Answers how many it then has.
-fn ended(list: &mut [u64], count: usize, before: Reading, after: Reading) -> usize
-    requires { count ≤ length list.old }
-    ensures { result ≤ length list.new }
-{
-    if !is_number(before) {
-        return count;
-    }
-    if is_number(after) {
-        return count;
-    }
-    if count == list.len() {
-        return count;
-    }
-    list[count] = before.value;
-    count + 1
+    Ok(numbers.next)
 }
 
 // One byte more.
-fn step(reading: Reading, byte: u8) -> Reading {
-    let place = reading.place;
-    match place {
-        Place::Comment => in_comment(byte),
-        Place::Fault => reading,
-        _ => in_numbers(reading.value, byte),
-    }
+fn step(reading: Reading, byte: u8) -> Result<Reading, Fault> {
+    let next = match (reading, byte) {
+        (_, b'\n') => Reading::Between,
+        (Reading::Comment, _) => Reading::Comment,
+        (_, b' ') => Reading::Between,
+        (_, b'#') => Reading::Comment,
+        (Reading::Number(n), _) => Reading::Number(with_digit(n, byte)?),
+        (Reading::Between, _) => Reading::Number(with_digit(0, byte)?),
+    };
+    Ok(next)
 }
 
-fn in_comment(byte: u8) -> Reading {
-    if byte == b'\n' {
-        return outside(Place::Between);
-    }
-    outside(Place::Comment)
-}
-
-// A byte behind digits that come to a value, or between numbers.
-fn in_numbers(value: u64, byte: u8) -> Reading {
-    if byte < b'0' {
-        return outside(beside_digits(byte));
-    }
-    if byte > b'9' {
-        return outside(beside_digits(byte));
-    }
-    let digit = (byte - b'0') as u64;
-    if (MOST - digit) / 10 < value {
-        return outside(Place::Fault);
-    }
-    Reading {
-        place: Place::Number,
-        value: value * 10 + digit,
-    }
-}
-
-fn beside_digits(byte: u8) -> Place {
-    match byte {
-        b' ' | b'\n' => Place::Between,
-        b'#' => Place::Comment,
-        _ => Place::Fault,
-    }
-}
-
-fn outside(place: Place) -> Reading {
-    Reading { place, value: 0 }
-}
-
-fn is_number(reading: Reading) -> bool {
-    let place = reading.place;
-    if let Place::Number = place {
-        true
-    } else {
-        false
-    }
-}
-
-fn is_fault(reading: Reading) -> bool {
-    let place = reading.place;
-    if let Place::Fault = place {
-        true
-    } else {
-        false
-    }
+// A number with one digit more. There is none where the byte is no digit, or 32 bits do not hold it.
+fn with_digit(n: u32, byte: u8) -> Result<u32, Fault> {
+    let digit = char::from(byte).to_digit(10).ok_or(Fault::OddScript)?;
+    let tens = n.checked_mul(10).ok_or(Fault::OddScript)?;
+    tens.checked_add(digit).ok_or(Fault::OddScript)
 }

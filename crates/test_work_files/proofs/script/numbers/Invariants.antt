@@ -1,11 +1,12 @@
--- `test_work_files::script::numbers` meets its promise: every number that has ended has a place of the list.
-use Prim.Native.Nat.{◌-◌, ◌≤◌}
+-- `test_work_files::script::numbers` meets its promise: the next place lies within the list.
+use Prim.Native.Nat.{◌≤◌}
 use lib.ListN.{length}
 use mathlib.Core.Path.{◌≡◌}
 use Rattle.test_work_files.proofs.script.numbers.Given as goal
 
-abbrev pub invariant-loop-k : goal.invariant-loop-k
-invariant-loop-k l = (l.count ≤ length l.list) × (length l.list ≡ length l.initial.list)
-
-abbrev pub decreases-loop-k : goal.decreases-loop-k
-decreases-loop-k l = length l.text - l.k
+abbrev pub invariant-loop-byte : goal.invariant-loop-byte
+invariant-loop-byte l =
+    record {
+      same_list : l.numbers.list.ghost_name ≡ l.initial.numbers.list.ghost_name;
+      within : l.numbers.next ≤ length l.numbers.list.now;
+    }
