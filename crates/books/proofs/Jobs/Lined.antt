@@ -25,11 +25,6 @@ pub record Follow (w : Work) (behind : List ℕ) : Type 0 where
 pub lined_follow : {w : Work} {first behind : List ℕ} → Lined w 0 first behind → Follow w behind
 lined_follow l = record { places = l.behind_places; behinds = λ a to. l.behinds a (omega arith) to }
 
--- before they are lined up: each server's is the count of all arrivals
-pub record Unlined (w : Work) (first behind : List ℕ) : Type 0 where
-  pub first_is : first ≡ replicate most_servers w.arrivals
-  pub places : length behind ≡ most_arrivals
-
 -- behind all arrivals no server has a job
 pub lined_none : {w : Work} {behind : List ℕ} → length behind ≡ most_arrivals
     → Lined w w.arrivals (replicate most_servers w.arrivals) behind
