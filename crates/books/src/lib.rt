@@ -23,7 +23,8 @@ pub struct Current {
 // changed key changes only what stands above it. No ghost field says so: while a key is being changed it does not hold.
 #[derive(Clone, Copy)]
 pub struct WinnerTree {
-    pub leaves: usize,
+    // A byte, since by that the compiler knows that a place is a small number: with a usize the climb takes longer.
+    pub leaves: u8,
     pub keys: [u64; 128],
 }
 

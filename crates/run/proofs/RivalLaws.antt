@@ -4,11 +4,11 @@ use Prim.Native.Nat.{ℕ, ◌+◌, ◌-◌, ◌/◌, ◌≤◌, ◌<◌, min}
 use lib.ListN.{get_or}
 use lib.Seq.{get_or-set_other}
 use mathlib.Core.Logic.{◌≢◌}
-use mathlib.Core.Path.{◌≡◌, sym, ◌∙◌, ap}
+use mathlib.Core.Path.{◌≡◌, sym, ◌∙◌, ap, subst, subst⁻¹}
 use native.Mathlib.Decide.{ℕ_discrete}
 use native.Mathlib.Omega.{arith}
 use Rattle.books.specs.declared.WinnerTree.{WinnerTree}
-use Rattle.books.proofs.Tree.Winners.{with_place, key_at, root_of, Winners, Beside, Set, Rival, root_least, root_some}
+use Rattle.books.proofs.Tree.Winners.{with_place, key_at, root_of, Leaf, Beside, Set, Rival, root_least, root_some}
 use Rattle.books.proofs.Tree.Climb.{Climb, stored_at, climb_starts, climb_goes_on, climb_ends, set_from}
 
 -- the tree that would stand if server i had the key k, and the climb in it had reached `at`, above the keys
@@ -38,17 +38,21 @@ rival_from {tree} {would} {i} {k} {r} w root j below other e =
 
 module _ {tree : WinnerTree} {i : ℕ} where
   -- the key beside it is stored at server i, and is the lesser of the two
-  pub would_starts : Winners tree → i < tree.leaves → (s : ℕ) → Beside (tree.leaves + i) s
-      → Would tree i (get_or tree.keys s 0) ((tree.leaves + i) / 2) (get_or tree.keys s 0)
-  would_starts w h s beside =
-      record {
+  pub would_starts : Leaf tree i → {leaf : ℕ} → leaf ≡ tree.leaves + i → (s : ℕ) → Beside leaf s
+      → Would tree i (get_or tree.keys s 0) (leaf / 2) (get_or tree.keys s 0)
+  would_starts l is s besides =
+      let w = l.winners in
+      let h = l.place in
+      let beside = subst (λ (p : ℕ). Beside p s) is besides in
+      subst⁻¹ (λ (p : ℕ). Would tree i (get_or tree.keys s 0) (p / 2) (get_or tree.keys s 0)) is
+      (record {
         would = with_place (stored_at tree i (get_or tree.keys s 0)) ((tree.leaves + i) / 2) (get_or tree.keys s 0);
         climb =
             climb_goes_on (climb_starts w i (get_or tree.keys s 0) h) s (get_or tree.keys s 0) beside
             (omega (arith, get_or-set_other tree.keys (tree.leaves + i) s (get_or tree.keys s 0) 0 (λ e. omega arith)))
             (omega (arith, w.some));
         above = omega arith;
-      }
+      })
 
   -- what is beside the climb is as in the tree that is there
   pub would_goes_on : {k at least : ℕ} → Would tree i k at least → (s v : ℕ) → Beside at s → v ≡ min least (get_or tree.keys s 0) → 1 < at
@@ -66,9 +70,11 @@ module _ {tree : WinnerTree} {i : ℕ} where
           ∙ get_or-set_other tree.keys (tree.leaves + i) s k 0 (λ e. omega (arith, c.above, c.climb.pairs, c.climb.same_leaves))
 
   -- at the root
-  pub would_ends : Winners tree → i < tree.leaves → (s : ℕ) → Beside (tree.leaves + i) s → {at least : ℕ}
+  pub would_ends : Leaf tree i → {leaf : ℕ} → leaf ≡ tree.leaves + i → (s : ℕ) → Beside leaf s → {at least : ℕ}
       → Would tree i (get_or tree.keys s 0) at least → at ≤ 1 → Rival tree i least
-  would_ends w h s beside {at} {least} c end =
+  would_ends l is s beside {at} {least} c end =
+      let w = l.winners in
+      let h = l.place in
       rival_from (set_from w i (get_or tree.keys s 0) h (climb_ends c.climb end) c.climb.same_leaves c.climb.keys)
       (ap (λ (n : ℕ). get_or c.would.keys n 0) (omega (arith, c.climb.inner)) ∙ c.climb.reached)
       (s - tree.leaves)

@@ -1,6 +1,6 @@
 // Keys are set in the winner tree, and the least of some are told. These are functions and no methods, since a type's methods stand in its
 // crate, and `books` has no code.
-ghost use Rattle.std.specs.Prelude.{◌≤◌, ◌<◌, ◌≡◌};
+ghost use Rattle.std.specs.Prelude.{◌≡◌, ◌+◌, ◌≤◌, ◌<◌};
 ghost use Rattle.books.proofs.Tree.Climb.{Climb, Climbed, Climbs};
 ghost use Rattle.books.proofs.Tree.Winners.{Beside, Enough, Leaf, Rival, Set, root_of};
 ghost use Rattle.sizes.specs.Sizes.{most_servers};
@@ -12,7 +12,7 @@ pub(crate) fn set_key(tree: &mut WinnerTree, i: usize, key: u64)
     requires { Leaf tree.old i }
     ensures { Set tree.old tree.new i key }
 {
-    let at = tree.leaves + i;
+    let at = leaf_of(tree, i);
     tree.keys[at] = key;
     let _root = climb_up(tree, at, key);
 }
@@ -25,7 +25,7 @@ pub(crate) fn set_winner(tree: &mut WinnerTree, i: usize, key: u64) -> u64
     ensures value { result ≡ root_of tree.new }
     ensures set { Set tree.old tree.new i key }
 {
-    let at = tree.leaves + i;
+    let at = leaf_of(tree, i);
     tree.keys[at] = key;
     match tree.leaves {
         64 => climb(tree, at, key, 6),
@@ -71,7 +71,7 @@ pub(crate) fn rival(tree: &WinnerTree, i: usize) -> u64
     requires { Leaf tree.now i }
     ensures { Rival tree.now i result }
 {
-    let leaf = tree.leaves + i;
+    let leaf = leaf_of(tree, i);
     let mut least = tree.keys[sibling(leaf)];
     let mut at = leaf / 2;
     while at > 1 {
@@ -81,19 +81,27 @@ pub(crate) fn rival(tree: &WinnerTree, i: usize) -> u64
     least
 }
 
+// The place of the key of server i.
+fn leaf_of(tree: &WinnerTree, i: usize) -> usize
+    requires { Leaf tree.now i }
+    ensures { result ≡ tree.now.leaves + i }
+{
+    usize::from(tree.leaves) + i
+}
+
 // How many leaves so many servers need.
-pub(crate) fn leaves_of(count: usize) -> usize
+pub(crate) fn leaves_of(count: usize) -> u8
     requires { count ≤ most_servers }
     ensures { Enough count result }
 {
-    count.next_power_of_two().clamp(2, sizes::MOST_SERVERS)
+    count.next_power_of_two().clamp(2, sizes::MOST_SERVERS) as u8
 }
 
 // The place of the half of the servers that server i is not of.
 pub(crate) fn other_half(tree: &WinnerTree, i: usize) -> usize
     ensures { result < 128 }
 {
-    if i < tree.leaves / 2 { 3 } else { 2 }
+    if i < usize::from(tree.leaves) / 2 { 3 } else { 2 }
 }
 
 // The other place under the place above `at`.

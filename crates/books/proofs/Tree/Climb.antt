@@ -4,7 +4,7 @@ use lib.ListN.{length, get_or, set, length-set}
 use lib.Seq.{get_or-set_same, get_or-set_other}
 use mathlib.Core.List.{List}
 use mathlib.Core.Logic.{◌≢◌}
-use mathlib.Core.Path.{◌≡◌, refl, sym, ◌∙◌, ap, subst⁻¹}
+use mathlib.Core.Path.{◌≡◌, refl, sym, ◌∙◌, ap, subst, subst⁻¹}
 use native.Mathlib.Decide.{ℕ_discrete}
 use native.Mathlib.Omega.{arith}
 use Rattle.books.specs.declared.WinnerTree.{WinnerTree}
@@ -177,15 +177,26 @@ pub record Climbs (tree : WinnerTree) (at key turns : ℕ) : Type 0 where
   pub climb : Climb tree tree at key
   pub up : Below at turns
 
-module _ {entry : WinnerTree} {i : ℕ} (leaf : Leaf entry i) (key : ℕ) where
-  -- a climb from a leaf
-  pub climbs : Climb (stored_at entry i key) (stored_at entry i key) (entry.leaves + i) key
-  climbs = climb_starts leaf.winners i key leaf.place
+module _ {entry : WinnerTree} {i at : ℕ} (leaf : Leaf entry i) (at_is : at ≡ entry.leaves + i) (key : ℕ) where
+  abbrev stored : WinnerTree
+  stored = with_place entry at key
 
-  pub climbs_doubled : (k : ℕ) → entry.leaves ≡ doubled k → Climbs (stored_at entry i key) (entry.leaves + i) key k
+  -- a climb from a leaf
+  pub climbs : Climb stored stored at key
+  climbs =
+      subst⁻¹ (λ (p : ℕ). Climb (with_place entry p key) (with_place entry p key) p key) at_is
+      (climb_starts leaf.winners i key leaf.place)
+
+  pub climbs_doubled : (k : ℕ) → entry.leaves ≡ doubled k → Climbs stored at key k
   climbs_doubled k e =
-      record { climb = climbs; up = subst⁻¹ (λ (m : ℕ). Below (m + i) k) e (leaf_below k i (omega (arith, leaf.place))) }
+      record {
+        climb = climbs;
+        up = subst⁻¹ (λ (p : ℕ). Below p k) (at_is ∙ ap (λ (m : ℕ). m + i) e) (leaf_below k i (omega (arith, leaf.place)));
+      }
 
   -- sets its key
-  pub climbed_set : {exit : WinnerTree} {r : ℕ} → Climbed (stored_at entry i key) exit r → Set entry exit i key
-  climbed_set c = set_from leaf.winners i key leaf.place c.winners c.same_leaves c.keys
+  pub climbed_set : {exit : WinnerTree} {r : ℕ} → Climbed stored exit r → Set entry exit i key
+  climbed_set {exit} {r} c = go (subst (λ (p : ℕ). Climbed (with_place entry p key) exit r) at_is c)
+    where
+      go : Climbed (stored_at entry i key) exit r → Set entry exit i key
+      go d = set_from leaf.winners i key leaf.place d.winners d.same_leaves d.keys
