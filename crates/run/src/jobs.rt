@@ -1,11 +1,10 @@
 // The finish list, the jobs of each server, one behind the other, and which of them each serves.
-ghost use Rattle.std.specs.Prelude.{◌≤◌, length, ◌≡◌, replicate};
+ghost use Rattle.std.specs.Prelude.{◌≤◌, length, ◌≡◌};
 ghost use Rattle.books.proofs.Accepted.{Accepted};
 ghost use Rattle.books.proofs.Book.{job_book};
-ghost use Rattle.books.proofs.Jobs.Lined.{Lined};
+ghost use Rattle.books.proofs.Jobs.Lined.{Lined, Unlined};
 ghost use Rattle.books.proofs.Jobs.Opened.{MayGoOn, Opened, Serves, WentOn};
 ghost use Rattle.finish.specs.Finish.{finish_list, is_open};
-ghost use Rattle.sizes.specs.Sizes.{most_servers};
 ghost use Rattle.workfile.specs.Work.{work};
 
 use crate::reading;
@@ -20,27 +19,21 @@ pub(crate) fn open_all(finishes: &mut [u32], m: usize)
     finishes[..m].fill(sizes::OPEN_JOB);
 }
 
-// The jobs of each server, one behind the other, from the last arrival to the first: each serves its first, of which nothing is left as none
-// is opened yet.
-pub(crate) fn line_up(file: &[u8]) -> JobLines
-    requires { Accepted file.now }
-    ensures lined { Lined (work file.now) 0 result.job result.behind }
-    ensures left { result.left ≡ replicate most_servers 0 }
+// The jobs of each server, one behind the other, from the last arrival to the first, and the first one for it to serve. All places hold the
+// count of all arrivals before.
+pub(crate) fn line_up(file: &[u8], lines: &mut JobLines)
+    requires accepted { Accepted file.now }
+    requires unlined { Unlined (work file.now) lines.old }
+    ensures lined { Lined (work file.now) 0 lines.new.job lines.new.behind }
+    ensures left { lines.new.left ≡ lines.old.left }
 {
     let h = workfile::header_of(file);
-    let arrivals = h.arrivals.count;
-    let mut lines = JobLines {
-        job: [arrivals; sizes::MOST_SERVERS],
-        left: [0; sizes::MOST_SERVERS],
-        behind: [0; sizes::MOST_ARRIVALS],
-    };
-    for k in (0..arrivals).rev() {
+    for k in (0..h.arrivals.count).rev() {
         let a = reading::arrival_of(file, k);
         let i = a.server;
         lines.behind[k] = lines.job[i];
         lines.job[i] = k;
     }
-    lines
 }
 
 // What is left of the job that server i serves. Where that is nothing, its next job is opened; there is one.

@@ -23,7 +23,12 @@ pub(crate) fn travel(file: &[u8], list: &mut [u64], finishes: &mut [u32]) -> Tra
     let arrivals = h.arrivals.count;
     let horizon = h.horizon;
     jobs::open_all(finishes, arrivals);
-    let mut lines = jobs::line_up(file);
+    let mut lines = JobLines {
+        job: [arrivals; sizes::MOST_SERVERS],
+        left: [0; sizes::MOST_SERVERS],
+        behind: [0; sizes::MOST_ARRIVALS],
+    };
+    jobs::line_up(file, &mut lines);
     let mut turns = Turns {
         tree: WinnerTree {
             leaves: tree::leaves_of(h.servers.count),

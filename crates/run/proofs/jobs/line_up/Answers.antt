@@ -16,8 +16,9 @@ loop-k-init c =
     let read = arrivals_read c.args.file.now c.header_of-h.ensures in
     record {
       lined =
-          subst⁻¹ (λ (k : ℕ). Lined (work c.args.file.now) k (replicate most_servers k) (replicate most_arrivals 0)) read
-          (lined_none (length-replicate {A = ℕ} most_arrivals 0));
+          subst₂ (λ (k : ℕ) (l : List ℕ). Lined (work c.args.file.now) k l c.args.lines.now.behind) (sym read)
+          (sym c.requires.unlined.job_is)
+          (lined_none c.requires.unlined.places);
       left = refl;
       within = omega (arith, read);
     }
@@ -43,8 +44,8 @@ loop-k-preserved c =
           (λ (i : ℕ). Lined (work file) (l.k - 1) (set l.lines.job i (l.k - 1)) (set l.lines.behind (l.k - 1) (get_or l.lines.job i 0)))
           (ap (λ (a : Arrival). a.server) c.arrival_of-a.ensures)
           (lined_more (subst (λ (n : ℕ). Lined (work file) n l.lines.job l.lines.behind) step l.invariant.lined)
-          (few file c.requires l.k more within)
-          (known file c.requires l.k more within));
+          (few file c.requires.accepted l.k more within)
+          (known file c.requires.accepted l.k more within));
       left = l.invariant.left;
       within = omega (arith, within);
     }

@@ -32,8 +32,16 @@ leaves_of-requires c = omega (arith, servers_read _ c.header_of-h.ensures, c.req
 pub open_all-requires : goal.open_all-requires
 open_all-requires c = omega (arith, arrivals_read _ c.header_of-h.ensures, c.requires.file_in_bounds)
 
-pub line_up-lines-requires : goal.line_up-lines-requires
-line_up-lines-requires c = c.requires.accepted
+pub line_up-requires : goal.line_up-requires
+line_up-requires c =
+    record {
+      accepted = c.requires.accepted;
+      unlined =
+          record {
+            job_is = ap (replicate most_servers) (arrivals_read _ c.header_of-h.ensures);
+            places = length-replicate {A = ℕ} most_arrivals 0;
+          };
+    }
 
 pub from_start-requires : goal.from_start-requires
 from_start-requires c = c.requires.accepted
@@ -80,14 +88,14 @@ turns p = turns_of (tree_same p.leaves_of.result last_tick) (replicate most_serv
 
 starts : (p : After-from_start)
     → Travels (lent_in (its p) (from p).moment.tick (from p).current p.args.list.now (opened p)) (standing_at (from p))
-    (book (turns p) (segment_book p.args.list.now (from p).current) (job_book p.line_up-lines.result (opened p)))
+    (book (turns p) (segment_book p.args.list.now (from p).current) (job_book p.line_up.new.lines (opened p)))
 starts p =
     let list = p.args.list.now in
-    let lines = p.line_up-lines in
+    let lines = p.line_up in
     subst⁻¹
     (λ (s : Standing).
     Travels (lent_in (its p) s.moment.tick s.current list (opened p)) (standing_at s)
-    (book (turns p) (segment_book list s.current) (job_book lines.result (opened p))))
+    (book (turns p) (segment_book list s.current) (job_book lines.new.lines (opened p))))
     p.from_start.ensures
     (travels_start list (opened p) (fit p) (enough p) (open_again p) lines.ensures.lined lines.ensures.left)
 
