@@ -9,51 +9,49 @@ use Rattle.trace.specs.Trace.{trace}
 use Rattle.trace.specs.declared.Segment.{Segment}
 use Rattle.workfile.specs.Work.{Work}
 use Rattle.books.specs.declared.Current.{Current}
+use Rattle.books.specs.declared.JobLines.{JobLines}
 use Rattle.books.specs.declared.Standing.{Standing}
-use Rattle.books.proofs.Tree.Winners.{Tree}
+use Rattle.books.specs.declared.Turns.{Turns}
+use Rattle.books.specs.declared.WinnerTree.{WinnerTree}
 
 -- of segments: the lent list, and the stretch that the run is in
 pub record SegmentBook : Type 0 where
   pub list : List ℕ
   pub current : Current
 
--- of turns: the winner tree, the postponements and the interruptions of each server, and the segments
-pub record TurnBook : Type 0 where
-  pub tree : Tree
-  pub postponed : List ℕ
-  pub interrupted : List ℕ
-  pub segments : SegmentBook
-
--- of jobs: which of them each server serves, what is left of that one, and the lent list of finishes
+-- of jobs: those of each server, and the lent list of finishes
 pub record JobBook : Type 0 where
-  pub job : List ℕ
-  pub left : List ℕ
+  pub lines : JobLines
   pub finishes : List ℕ
 
+-- all of it, with what it keeps of turns
 pub record Book : Type 0 where
-  pub turns : TurnBook
+  pub turns : Turns
+  pub segments : SegmentBook
   pub jobs : JobBook
 
 -- each from the arrays and lists that the code has
 abbrev pub segment_book : List ℕ → Current → SegmentBook
 segment_book list current = record { list = list; current = current }
 
-abbrev pub turn_book : Tree → List ℕ → List ℕ → SegmentBook → TurnBook
-turn_book tree postponed interrupted segments =
-    record { tree = tree; postponed = postponed; interrupted = interrupted; segments = segments }
+abbrev pub turns_of : WinnerTree → List ℕ → List ℕ → Turns
+turns_of tree postponed interrupted = record { tree = tree; postponed = postponed; interrupted = interrupted }
 
-abbrev pub job_book : List ℕ → List ℕ → List ℕ → JobBook
-job_book job left finishes = record { job = job; left = left; finishes = finishes }
+abbrev pub lines_with : JobLines → (job left : List ℕ) → JobLines
+lines_with lines job left = record { job = job; left = left; behind = lines.behind }
 
-abbrev pub book : TurnBook → JobBook → Book
-book turns jobs = record { turns = turns; jobs = jobs }
+abbrev pub job_book : JobLines → List ℕ → JobBook
+job_book lines finishes = record { lines = lines; finishes = finishes }
+
+abbrev pub book : Turns → SegmentBook → JobBook → Book
+book turns segments jobs = record { turns = turns; segments = segments; jobs = jobs }
 
 -- with other segments, with another tree, or with other work of the current stretch's server
 abbrev pub with_segments : Book → SegmentBook → Book
-with_segments b segments = book (turn_book b.turns.tree b.turns.postponed b.turns.interrupted segments) b.jobs
+with_segments b segments = book b.turns segments b.jobs
 
-abbrev pub with_tree : Book → Tree → Book
-with_tree b tree = book (turn_book tree b.turns.postponed b.turns.interrupted b.turns.segments) b.jobs
+abbrev pub with_tree : Book → WinnerTree → Book
+with_tree b tree = book (turns_of tree b.turns.postponed b.turns.interrupted) b.segments b.jobs
 
 abbrev pub with_waits : SegmentBook → Length → SegmentBook
 with_waits b waits =
@@ -70,9 +68,11 @@ with_waits b waits =
 pub segments_same : {a b : SegmentBook} → a.list ≡ b.list → a.current ≡ b.current → a ≡ b
 segments_same list current = ap₂ segment_book list current
 
-pub jobs_same : {a b : JobBook} → a.job ≡ b.job → a.left ≡ b.left → a.finishes ≡ b.finishes → a ≡ b
-jobs_same {a} {b} job left finishes =
-    ap₂ (λ (x y : List ℕ). job_book x y a.finishes) job left ∙ ap (job_book b.job b.left) finishes
+pub jobs_same : {a b : JobBook} → a.lines.job ≡ b.lines.job → a.lines.left ≡ b.lines.left → a.lines.behind ≡ b.lines.behind
+    → a.finishes ≡ b.finishes → a ≡ b
+jobs_same {a} {b} job left behind finishes =
+    ap₂ (λ (x y : List ℕ). job_book (lines_with a.lines x y) a.finishes) job left
+    ∙ ap₂ (λ (x y : List ℕ). job_book (record { job = b.lines.job; left = b.lines.left; behind = x }) y) behind finishes
 
 -- A run: its work, and the two lists as they were lent, at which moment, and the segments that had ended before.
 pub record Run : Type 0 where

@@ -18,6 +18,33 @@ pub struct Current {
     pub count: usize,
 }
 
+// A winner tree over the keys of the servers, with as many leaves as the table needs: with n leaves the keys stand at places n to 2n - 1,
+// each place p from 1 to n - 1 holds the lesser of those at 2p and 2p + 1, and place 0 is unused. So place 1 holds the least key, and a
+// changed key changes only what stands above it. No ghost field says so: while a key is being changed it does not hold.
+#[derive(Clone, Copy)]
+pub struct WinnerTree {
+    // A byte, since by that the compiler knows that a place is a small number: with a usize the climb takes longer.
+    pub leaves: u8,
+    pub keys: [u64; 128],
+}
+
+// What a run keeps of its turns: the winner tree, and how often each server was postponed and interrupted.
+#[derive(Clone, Copy)]
+pub struct Turns {
+    pub tree: WinnerTree,
+    pub postponed: [u64; sizes::MOST_SERVERS],
+    pub interrupted: [u64; sizes::MOST_SERVERS],
+}
+
+// What a run keeps of its jobs: which of them each server serves, what is left of that one, and the job behind each. Where there is none
+// it is the count of all arrivals.
+#[derive(Clone, Copy)]
+pub struct JobLines {
+    pub job: [usize; sizes::MOST_SERVERS],
+    pub left: [u64; sizes::MOST_SERVERS],
+    pub behind: [usize; sizes::MOST_ARRIVALS],
+}
+
 // Where a run stands between two events: the moment, how many arrivals are taken, the dispatcher, and the stretch that it is in.
 #[derive(Clone, Copy)]
 pub struct Standing {

@@ -5,34 +5,34 @@ ghost use Rattle.books.proofs.Budgets.Budgets.{Able, Budgets, BudgetsFrom, Furth
 ghost use Rattle.books.proofs.Budgets.BudgetLaws.{RisesBelow};
 ghost use Rattle.books.proofs.Budgets.Skipped.{last_of};
 ghost use Rattle.books.proofs.Stretches.Turns.{Bounded};
-ghost use Rattle.books.proofs.Tree.Winners.{Leaf, tree_of};
+ghost use Rattle.books.proofs.Tree.Winners.{Leaf};
 ghost use Rattle.clock.specs.Clock.{last_tick, ticks};
 ghost use Rattle.sizes.specs.Sizes.{clock_end};
 
 use crate::serving::less;
 use crate::{stretches, tree};
-use books::Current;
+use books::{Current, WinnerTree};
 use clock::{Length, Moment};
 use server::Server;
 
 // For how many whole budgets server i goes on: none where its budget is not full, else as many as there is time and work to spare,
 // and as no other server wins before.
-pub(crate) fn further(keys: &[u64; 128], leaves: usize, i: usize, s: Server, spare: Length) -> u64
-    requires leaf { Leaf (tree_of leaves keys.now) i }
+pub(crate) fn further(tree: &WinnerTree, i: usize, s: Server, spare: Length) -> u64
+    requires leaf { Leaf tree.now i }
     requires able { Able s }
-    ensures { Further (tree_of leaves keys.now) i s spare.ticks result }
+    ensures { Further tree.now i s spare.ticks result }
 {
     let budget = s.budget.ticks;
     let own = s.deadline.tick * 64 + i as u64;
     // The least key of the half of the servers that i is not of. Asked first, as it nearly always ends as it did the time before: where
     // many are at work, that half mostly has an earlier key.
-    if keys[tree::other_half(leaves, i)] <= own
+    if tree.keys[tree::other_half(tree, i)] <= own
         || s.remaining.ticks < budget
         || spare.ticks <= budget
     {
         return 0;
     }
-    let rival = tree::rival(keys, leaves, i);
+    let rival = tree::rival(tree, i);
     if rival <= own {
         return 0;
     }

@@ -1,41 +1,37 @@
 // One spell of the server that is picked: how many ticks of its job it runs at once, and for how many whole budgets it then
 // goes on, and what that leaves in the books.
 ghost use Rattle.std.specs.Prelude.{◌≡◌, ◌+◌};
-ghost use Rattle.books.proofs.Book.{segment_book, turn_book};
+ghost use Rattle.books.proofs.Book.{segment_book};
 ghost use Rattle.books.proofs.Budgets.Budgets.{BudgetsFrom};
 ghost use Rattle.books.proofs.Spell.Planned.{MayGo, MayPlan, Planned};
 ghost use Rattle.books.proofs.Spell.SpellLeaves.{SpellLeaves, after_spell};
 ghost use Rattle.books.proofs.Stretches.Turns.{Bounded};
-ghost use Rattle.books.proofs.Tree.Winners.{tree_of};
 ghost use Rattle.sizes.specs.Sizes.{clock_end};
 
 use crate::{budgets, serving, stretches, tree};
-use books::{Current, Gone, PlannedSpell};
+use books::{Current, Gone, PlannedSpell, Turns, WinnerTree};
 use clock::{Length, Moment};
 use server::Server;
 
 // Server i goes for a spell from t on, for so long at most.
 pub(crate) fn go(
     list: &mut [u64],
-    keys: &mut [u64; 128],
-    postponed: &mut [u64; sizes::MOST_SERVERS],
-    interrupted: &mut [u64; sizes::MOST_SERVERS],
-    leaves: usize,
+    turns: &mut Turns,
     c: Current,
     t: Moment,
     i: usize,
     s: Server,
     most: Length,
 ) -> Gone
-    requires { MayGo t.tick i s most.ticks (turn_book (tree_of leaves keys.old) postponed.old interrupted.old (segment_book list.old c)) }
-    ensures { SpellLeaves t.tick i s most.ticks (turn_book (tree_of leaves keys.old) postponed.old interrupted.old (segment_book list.old c)) (turn_book (tree_of leaves keys.new) postponed.new interrupted.new (segment_book list.new result.current)) result }
+    requires { MayGo t.tick i s most.ticks turns.old (segment_book list.old c) }
+    ensures { SpellLeaves t.tick i s most.ticks turns.old turns.new (segment_book list.old c) (segment_book list.new result.current) result }
 {
-    let p = plan(keys, leaves, i, s, most);
+    let p = plan(&turns.tree, i, s, most);
     let current = pass_through(list, c, t, i, s.deadline, p);
     // Only here: the budgets behind the ticks are this server's own, and idle time interrupts nobody.
-    stretches::interrupt(interrupted, c, i);
-    let root = tree::set_winner(keys, leaves, i, p.key);
-    postponed[i] += p.postponed;
+    stretches::interrupt(&mut turns.interrupted, c, i);
+    let root = tree::set_winner(&mut turns.tree, i, p.key);
+    turns.postponed[i] += p.postponed;
     Gone {
         server: p.last,
         current,
@@ -45,16 +41,16 @@ pub(crate) fn go(
 }
 
 // What the spell will be: its ticks and budgets, and the server, its key and its counts after them.
-fn plan(keys: &[u64; 128], leaves: usize, i: usize, s: Server, most: Length) -> PlannedSpell
-    requires { MayPlan (tree_of leaves keys.now) i s most.ticks }
-    ensures { Planned (tree_of leaves keys.now) i s most.ticks result }
+fn plan(tree: &WinnerTree, i: usize, s: Server, most: Length) -> PlannedSpell
+    requires { MayPlan tree.now i s most.ticks }
+    ensures { Planned tree.now i s most.ticks result }
 {
     let ticks = Length {
         ticks: s.remaining.ticks.min(most.ticks),
     };
     let after = serving::serve(s, ticks);
     let spare = serving::less(most, ticks);
-    let budgets = budgets::further(keys, leaves, i, after, spare);
+    let budgets = budgets::further(tree, i, after, spare);
     let spent = u64::from(ticks.ticks == s.remaining.ticks);
     // Mostly there are none, and then there is nothing to multiply.
     if budgets == 0 {

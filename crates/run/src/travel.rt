@@ -1,17 +1,16 @@
 // A run from event to event, to a moment that it is told, and so to the horizon.
 ghost use Rattle.std.specs.Prelude.{◌≤◌, length, ◌≡◌};
 ghost use Rattle.books.proofs.Accepted.{Accepted};
-ghost use Rattle.books.proofs.Book.{book, job_book, lent_in, segment_book, standing_at, turn_book};
+ghost use Rattle.books.proofs.Book.{book, job_book, lent_in, segment_book, standing_at};
 ghost use Rattle.books.proofs.Stretches.Segmented.{at_rest};
 ghost use Rattle.books.proofs.Travel.AtHorizon.{AtHorizon};
 ghost use Rattle.books.proofs.Travel.Travels.{MayTravel, Travels};
-ghost use Rattle.books.proofs.Tree.Winners.{tree_of};
 ghost use Rattle.clock.specs.Clock.{moment};
 ghost use Rattle.moments.specs.Moments.{at_moment};
 ghost use Rattle.workfile.specs.Work.{work};
 
 use crate::{jobs, reading, spell, starting, stretches, taking, tree};
-use books::{Standing, Travelled};
+use books::{JobLines, Standing, Travelled, Turns, WinnerTree};
 use clock::{Length, Moment};
 
 // Every job is opened, those of each server are lined up, and the run goes from its start to the horizon, where its last segment ends.
@@ -23,36 +22,36 @@ pub(crate) fn travel(file: &[u8], list: &mut [u64], finishes: &mut [u32]) -> Tra
     let h = workfile::header_of(file);
     let arrivals = h.arrivals.count;
     let horizon = h.horizon;
-    let leaves = tree::leaves_of(h.servers.count);
     jobs::open_all(finishes, arrivals);
-    // The job that each server serves, the job behind each, and what is left of the one that is served.
-    let mut job = [arrivals; sizes::MOST_SERVERS];
-    let mut behind = [0; sizes::MOST_ARRIVALS];
-    jobs::line_up(file, &mut job, &mut behind);
-    let mut left = [0; sizes::MOST_SERVERS];
-    // The winner tree, in which an idle server has the last number of all for its key.
-    let mut keys = [clock::LAST_TICK; 128];
-    let mut postponed = [0; sizes::MOST_SERVERS];
-    let mut interrupted = [0; sizes::MOST_SERVERS];
+    let mut lines = JobLines {
+        job: [arrivals; sizes::MOST_SERVERS],
+        left: [0; sizes::MOST_SERVERS],
+        behind: [0; sizes::MOST_ARRIVALS],
+    };
+    jobs::line_up(file, &mut lines);
+    let mut turns = Turns {
+        tree: WinnerTree {
+            leaves: tree::leaves_of(h.servers.count),
+            // An idle server has the last number of all for its key, and no Option: the climb then compares numbers alone.
+            keys: [clock::LAST_TICK; 128],
+        },
+        postponed: [0; sizes::MOST_SERVERS],
+        interrupted: [0; sizes::MOST_SERVERS],
+    };
     let end = to_moment(
         file,
         list,
         finishes,
         horizon,
-        leaves,
         from_start(file),
-        &mut keys,
-        &mut postponed,
-        &mut interrupted,
-        &mut job,
-        &mut left,
-        &behind,
+        &mut turns,
+        &mut lines,
     );
     let segments = stretches::end_segment(list, end.current, end.moment);
     Travelled {
         segments,
-        postponed,
-        interrupted,
+        postponed: turns.postponed,
+        interrupted: turns.interrupted,
     }
 }
 
@@ -77,18 +76,13 @@ fn to_moment(
     list: &mut [u64],
     finishes: &mut [u32],
     until: Moment,
-    leaves: usize,
     from: Standing,
-    keys: &mut [u64; 128],
-    postponed: &mut [u64; sizes::MOST_SERVERS],
-    interrupted: &mut [u64; sizes::MOST_SERVERS],
-    job: &mut [usize; sizes::MOST_SERVERS],
-    left: &mut [u64; sizes::MOST_SERVERS],
-    behind: &[usize; sizes::MOST_ARRIVALS],
+    turns: &mut Turns,
+    lines: &mut JobLines,
 ) -> Standing
-    requires { MayTravel file.now behind.now until.tick (lent_in (work file.now) from.moment.tick from.current list.old finishes.old) (standing_at from) (book (turn_book (tree_of leaves keys.old) postponed.old interrupted.old (segment_book list.old from.current)) (job_book job.old left.old finishes.old)) }
+    requires { MayTravel file.now until.tick (lent_in (work file.now) from.moment.tick from.current list.old finishes.old) (standing_at from) (book turns.old (segment_book list.old from.current) (job_book lines.old finishes.old)) }
     ensures moment_value { result.moment ≡ until }
-    ensures travels { Travels (lent_in (work file.now) from.moment.tick from.current list.old finishes.old) (standing_at result) (book (turn_book (tree_of leaves keys.new) postponed.new interrupted.new (segment_book list.new result.current)) (job_book job.new left.new finishes.new)) }
+    ensures travels { Travels (lent_in (work file.now) from.moment.tick from.current list.old finishes.old) (standing_at result) (book turns.new (segment_book list.new result.current) (job_book lines.new finishes.new)) }
 {
     let mut d = from.dispatcher;
     let mut c = from.current;
@@ -97,15 +91,16 @@ fn to_moment(
     let mut j = from.taken;
     let mut next = reading::next_stop(file, until, j);
     // What the root of the tree holds: kept here, since it would take time to read what has just been stored there.
-    let mut root = keys[1];
+    let mut root = turns.tree.keys[1];
     while t.tick < until.tick {
+        let tree = &mut turns.tree;
         while next.tick <= t.tick {
             let a = reading::arrival_of(file, j);
             let i = a.server;
-            d.servers[i] = taking::take(keys, leaves, i, d.servers[i], d.clock, a.cost);
+            d.servers[i] = taking::take(tree, i, d.servers[i], d.clock, a.cost);
             j += 1;
             next = reading::next_stop(file, until, j);
-            root = keys[1];
+            root = tree.keys[1];
         }
         if root == clock::LAST_TICK {
             c = stretches::idle(list, c, t);
@@ -113,29 +108,18 @@ fn to_moment(
             d.clock = t;
         } else {
             let i = (root % 64) as usize;
-            let rest = jobs::left_of(file, job, left, i);
+            let rest = jobs::left_of(file, lines, i);
             let room = clock::until(t, next);
             let most = Length {
                 ticks: rest.ticks.min(room.ticks),
             };
-            let g = spell::go(
-                list,
-                keys,
-                postponed,
-                interrupted,
-                leaves,
-                c,
-                t,
-                i,
-                d.servers[i],
-                most,
-            );
+            let g = spell::go(list, turns, c, t, i, d.servers[i], most);
             c = g.current;
             root = g.root;
             d.servers[i] = g.server;
             t = clock::later(t, g.gone);
             d.clock = t;
-            jobs::go_on(finishes, behind, job, left, i, g.gone, t);
+            jobs::go_on(finishes, lines, i, g.gone, t);
         }
     }
     Standing {

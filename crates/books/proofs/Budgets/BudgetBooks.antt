@@ -15,7 +15,7 @@ use Rattle.judgement.proofs.FitLaws.{Fit}
 use Rattle.moments.proofs.OneGo.{served_for, ran_for}
 use Rattle.server.specs.declared.Server.{Server}
 use Rattle.sizes.specs.Sizes.{most_servers}
-use Rattle.books.proofs.Book.{Run, here, job_book, Book, SegmentBook, turn_book, book, with_waits}
+use Rattle.books.proofs.Book.{Run, here, job_book, lines_with, Book, SegmentBook, turns_of, book, with_waits}
 use Rattle.books.proofs.Budgets.Budgets.{budgets_on, ran_budgets, turned_on, on_server, budgets_more, on_own, on_none, on_more}
 use Rattle.books.proofs.Stretches.Interruptions.{interruptions_after, none_of_itself}
 use Rattle.books.proofs.Stretches.Turns.{turned}
@@ -26,17 +26,17 @@ use Rattle.books.proofs.Travel.Stands.{NoneBefore}
 -- a book with other counts, other segments, and other work left
 abbrev pub book_with : Book → (postponed interrupted : List ℕ) → SegmentBook → List ℕ → Book
 book_with b postponed interrupted segments left =
-    book (turn_book b.turns.tree postponed interrupted segments) (job_book b.jobs.job left b.jobs.finishes)
+    book (turns_of b.turns.tree postponed interrupted) segments (job_book (lines_with b.jobs.lines b.jobs.lines.job left) b.jobs.finishes)
 
 -- the book after n whole budgets of server i from t on, which interrupt nobody
 abbrev pub budget_book : Book → ℕ → ℕ → Server → ℕ → Book
 budget_book b t i s n =
-    book_with b (set b.turns.postponed i (get_or b.turns.postponed i 0 + n)) b.turns.interrupted (turned_on b.turns.segments t i s n)
-    (set b.jobs.left i (get_or b.jobs.left i 0 - n * s.budget.ticks))
+    book_with b (set b.turns.postponed i (get_or b.turns.postponed i 0 + n)) b.turns.interrupted (turned_on b.segments t i s n)
+    (set b.jobs.lines.left i (get_or b.jobs.lines.left i 0 - n * s.budget.ticks))
 
 module _ {r : Run} {places t j : ℕ} {d : Dispatcher} {i : ℕ} {b : Book} (fit : Fit r.work places) (place : i < length d.servers)
     (server : i < most_servers) (q : ℕ) (budget : (server_at d i).budget.ticks ≡ suc q) (x : Kept r (here t j d) b)
-    (own : b.turns.segments.current.server ≡ i) where
+    (own : b.segments.current.server ≡ i) where
   -- all that is kept after n budgets
   abbrev On : ℕ → Type 0
   On n = Kept r (here (t + n * (server_at d i).budget.ticks) j (ran_budgets d i n)) (budget_book b t i (server_at d i) n)
@@ -45,20 +45,20 @@ module _ {r : Run} {places t j : ℕ} {d : Dispatcher} {i : ℕ} {b : Book} (fit
   unfolding turned_on
   on_start =
       subst₂ (Kept r) (ap₂ (λ (u : ℕ) (e : Dispatcher). here u j e) now (sym (on_none d i place)))
-      (ap₂ (λ (l m : List ℕ). book_with b l b.turns.interrupted b.turns.segments m) (sym same_counts) (sym same_left))
+      (ap₂ (λ (l m : List ℕ). book_with b l b.turns.interrupted b.segments m) (sym same_counts) (sym same_left))
       x
     where
       now : t ≡ t + 0 * (server_at d i).budget.ticks
       now = omega arith
 
-      same_left : set b.jobs.left i (get_or b.jobs.left i 0 - 0 * (server_at d i).budget.ticks) ≡ b.jobs.left
-      same_left = ap (set b.jobs.left i) (omega arith) ∙ set-get_or b.jobs.left i 0
+      same_left : set b.jobs.lines.left i (get_or b.jobs.lines.left i 0 - 0 * (server_at d i).budget.ticks) ≡ b.jobs.lines.left
+      same_left = ap (set b.jobs.lines.left i) (omega arith) ∙ set-get_or b.jobs.lines.left i 0
 
       same_counts : set b.turns.postponed i (get_or b.turns.postponed i 0 + 0) ≡ b.turns.postponed
       same_counts = ap (set b.turns.postponed i) (add-zero (get_or b.turns.postponed i 0)) ∙ set-get_or b.turns.postponed i 0
 
   module _ (n : ℕ) (full : (server_at d i).remaining.ticks ≡ (server_at d i).budget.ticks) (o : On n)
-      (wins : Earliest (ran_budgets d i n) d.count i) (less : suc n * (server_at d i).budget.ticks < get_or b.jobs.left i 0)
+      (wins : Earliest (ran_budgets d i n) d.count i) (less : suc n * (server_at d i).budget.ticks < get_or b.jobs.lines.left i 0)
       (horizon : t + suc n * (server_at d i).budget.ticks ≤ r.work.horizon.tick)
       (later : NoneBefore r.work j (t + suc n * (server_at d i).budget.ticks)) where
     abbrev before : ℕ
@@ -73,9 +73,9 @@ module _ {r : Run} {places t j : ℕ} {d : Dispatcher} {i : ℕ} {b : Book} (fit
     next : before + suc q ≡ t + suc n * (server_at d i).budget.ticks
     next = omega arith
 
-    its_left : get_or was.jobs.left i 0 ≡ get_or b.jobs.left i 0 - n * (server_at d i).budget.ticks
+    its_left : get_or was.jobs.lines.left i 0 ≡ get_or b.jobs.lines.left i 0 - n * (server_at d i).budget.ticks
     its_left =
-        get_or-set_same b.jobs.left i (get_or b.jobs.left i 0 - n * (server_at d i).budget.ticks) 0 (omega (arith, x.jobs.left_places))
+        get_or-set_same b.jobs.lines.left i (get_or b.jobs.lines.left i 0 - n * (server_at d i).budget.ticks) 0 (omega (arith, x.jobs.left_places))
 
     its_remaining : its.remaining.ticks ≡ suc q
     unfolding budgets_on
@@ -91,13 +91,13 @@ module _ {r : Run} {places t j : ℕ} {d : Dispatcher} {i : ℕ} {b : Book} (fit
     later_next : NoneBefore r.work j (before + suc q)
     later_next a l m = omega (arith, next, later a l m)
 
-    some : 0 < get_or was.jobs.left i 0
+    some : 0 < get_or was.jobs.lines.left i 0
     some = omega (arith, its_left)
 
-    more : suc q < get_or was.jobs.left i 0
+    more : suc q < get_or was.jobs.lines.left i 0
     more = omega (arith, its_left)
 
-    within : suc q ≤ get_or was.jobs.left i 0
+    within : suc q ≤ get_or was.jobs.lines.left i 0
     within = omega (arith, its_left)
 
     spends : suc q ≤ its.remaining.ticks
@@ -106,11 +106,11 @@ module _ {r : Run} {places t j : ℕ} {d : Dispatcher} {i : ℕ} {b : Book} (fit
     dispatcher_next : ran_for (ran_budgets d i n) i (suc q) ≡ ran_budgets d i (suc n)
     dispatcher_next = ap (ran_for (ran_budgets d i n) i) (sym budget) ∙ on_more d i place n full
 
-    left_next : set was.jobs.left i (get_or was.jobs.left i 0 - suc q)
-        ≡ set b.jobs.left i (get_or b.jobs.left i 0 - suc n * (server_at d i).budget.ticks)
+    left_next : set was.jobs.lines.left i (get_or was.jobs.lines.left i 0 - suc q)
+        ≡ set b.jobs.lines.left i (get_or b.jobs.lines.left i 0 - suc n * (server_at d i).budget.ticks)
     left_next =
-        set-set b.jobs.left i (get_or b.jobs.left i 0 - n * (server_at d i).budget.ticks) (get_or was.jobs.left i 0 - suc q)
-        ∙ ap (set b.jobs.left i) (omega (arith, its_left))
+        set-set b.jobs.lines.left i (get_or b.jobs.lines.left i 0 - n * (server_at d i).budget.ticks) (get_or was.jobs.lines.left i 0 - suc q)
+        ∙ ap (set b.jobs.lines.left i) (omega (arith, its_left))
 
     postponed_next : set was.turns.postponed i (get_or was.turns.postponed i 0 + cond (eqb (suc q) its.remaining.ticks) 1 0)
         ≡ set b.turns.postponed i (get_or b.turns.postponed i 0 + suc n)
@@ -123,24 +123,24 @@ module _ {r : Run} {places t j : ℕ} {d : Dispatcher} {i : ℕ} {b : Book} (fit
           get_or-set_same b.turns.postponed i (get_or b.turns.postponed i 0 + n) 0 (omega (arith, x.counts.places)),
         ))
 
-    segments_next : with_waits (turned was.turns.segments before i its.deadline) (served_for its (suc q)).waiting
-        ≡ turned_on b.turns.segments t i (server_at d i) (suc n)
+    segments_next : with_waits (turned was.segments before i its.deadline) (served_for its (suc q)).waiting
+        ≡ turned_on b.segments t i (server_at d i) (suc n)
     unfolding turned_on
     segments_next =
-        ap₂ (λ (s u : Server). with_waits (turned was.turns.segments before i s.deadline) u.waiting) (on_own d i place n)
+        ap₂ (λ (s u : Server). with_waits (turned was.segments before i s.deadline) u.waiting) (on_own d i place n)
         (ap₂ served_for (on_own d i place n) (sym budget) ∙ budgets_more (server_at d i) n full)
 
-    interruptions_next : interruptions_after was.turns.segments.current i b.turns.interrupted ≡ b.turns.interrupted
+    interruptions_next : interruptions_after was.segments.current i b.turns.interrupted ≡ b.turns.interrupted
     interruptions_next =
-        none_of_itself was.turns.segments.current i b.turns.interrupted
-        (on_server b.turns.segments t i (server_at d i) n (λ none. own))
+        none_of_itself was.segments.current i b.turns.interrupted
+        (on_server b.segments t i (server_at d i) n (λ none. own))
 
     on_next : On (suc n)
     on_next =
         subst₂ (Kept r) (ap₂ (λ (u : ℕ) (e : Dispatcher). here u j e) next dispatcher_next)
         (ap₂ (λ (l m : List ℕ). book_with b l m
-        (with_waits (turned was.turns.segments before i its.deadline) (served_for its (suc q)).waiting)
-        (set was.jobs.left i (get_or was.jobs.left i 0 - suc q)))
+        (with_waits (turned was.segments before i its.deadline) (served_for its (suc q)).waiting)
+        (set was.jobs.lines.left i (get_or was.jobs.lines.left i 0 - suc q)))
         postponed_next
         interruptions_next
         ∙ ap₂ (book_with b (set b.turns.postponed i (get_or b.turns.postponed i 0 + suc n)) b.turns.interrupted)
@@ -151,7 +151,7 @@ module _ {r : Run} {places t j : ℕ} {d : Dispatcher} {i : ℕ} {b : Book} (fit
 
   -- n budgets, while the server still wins and no arrival comes
   pub on_all : (n : ℕ) → (0 < n → (server_at d i).remaining.ticks ≡ (server_at d i).budget.ticks)
-      → ((m : ℕ) → m < n → Earliest (ran_budgets d i m) d.count i) → (0 < n → n * (server_at d i).budget.ticks < get_or b.jobs.left i 0)
+      → ((m : ℕ) → m < n → Earliest (ran_budgets d i m) d.count i) → (0 < n → n * (server_at d i).budget.ticks < get_or b.jobs.lines.left i 0)
       → t + n * (server_at d i).budget.ticks ≤ r.work.horizon.tick → NoneBefore r.work j (t + n * (server_at d i).budget.ticks) → On n
   on_all zero full wins less horizon later = on_start
   on_all (suc n) full wins less horizon later =

@@ -11,7 +11,8 @@ use Rattle.sizes.specs.Sizes.{clock_end, most_frame}
 use Rattle.books.proofs.Book.{SegmentBook}
 use Rattle.books.proofs.Budgets.Budgets.{budgets_on, turned_on, Able, BudgetsFrom, Further}
 use Rattle.books.proofs.Stretches.Turns.{Bounded, turned_bounded}
-use Rattle.books.proofs.Tree.Winners.{Tree, Rival}
+use Rattle.books.specs.declared.WinnerTree.{WinnerTree}
+use Rattle.books.proofs.Tree.Winners.{Rival}
 
 -- the first r of the numbers that rise from `from` on by `step` are below a bound
 abbrev pub RisesBelow : ℕ → ℕ → ℕ → ℕ → Type 0
@@ -30,7 +31,7 @@ pub fits_in : (budget spare : ℕ) → 1 ≤ spare → (spare - 1) / budget * bu
 fits_in budget spare l = omega (arith, div-mul-le_self (spare - 1) budget)
 
 -- How many budgets a server may go on for: none,
-pub further_none : (tree : Tree) (i : ℕ) (s : Server) (spare : ℕ) → Further tree i s spare 0
+pub further_none : (tree : WinnerTree) (i : ℕ) (s : Server) (spare : ℕ) → Further tree i s spare 0
 further_none tree i s spare =
     record {
       full = λ l. let no : ⊥ = omega arith in absurd no;
@@ -39,7 +40,7 @@ further_none tree i s spare =
     }
 
 -- or, with a full budget, as many as fit and as win over the least of the other keys
-pub further_some : (tree : Tree) (i : ℕ) (s : Server) (spare : ℕ) {rival wins fits r : ℕ} → Able s
+pub further_some : (tree : WinnerTree) (i : ℕ) (s : Server) (spare : ℕ) {rival wins fits r : ℕ} → Able s
     → s.budget.ticks ≤ s.remaining.ticks → Rival tree i rival
     → RisesBelow (s.deadline.tick * 64 + i) (64 * s.period.ticks) rival wins → fits * s.budget.ticks < spare → r ≤ wins → r ≤ fits
     → Further tree i s spare r

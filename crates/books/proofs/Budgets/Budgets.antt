@@ -20,7 +20,8 @@ use Rattle.sizes.specs.Sizes.{clock_end, most_frame, most_servers}
 use Rattle.books.proofs.Book.{SegmentBook, with_waits}
 use Rattle.books.proofs.Tree.Keys.{key_of, key_works}
 use Rattle.books.proofs.Stretches.Turns.{turned, turned_own}
-use Rattle.books.proofs.Tree.Winners.{Tree, key_at}
+use Rattle.books.specs.declared.WinnerTree.{WinnerTree}
+use Rattle.books.proofs.Tree.Winners.{key_at}
 
 -- a server with a full budget, n budgets later
 unfoldable pub budgets_on : Server → ℕ → Server
@@ -65,7 +66,7 @@ pub record BudgetsFrom (t i : ℕ) (s : Server) (n : ℕ) : Type 0 where
   pub works : n * s.budget.ticks ≤ s.waiting.ticks
 
 -- How many budgets b a server may go on for, with so much to spare of its work and of the time: none of the others wins before.
-pub record Further (tree : Tree) (i : ℕ) (s : Server) (spare b : ℕ) : Type 0 where
+pub record Further (tree : WinnerTree) (i : ℕ) (s : Server) (spare b : ℕ) : Type 0 where
   pub full : 0 < b → s.remaining.ticks ≡ s.budget.ticks
   pub fits : 0 < b → b * s.budget.ticks < spare
   pub wins : (n j : ℕ) → n < b → j < tree.leaves → (j ≡ i → ⊥) → (s.deadline.tick + n * s.period.ticks) * 64 + i < key_at tree j
@@ -159,7 +160,7 @@ module _ (d : Dispatcher) (i : ℕ) (here : i < length d.servers) where
       clock_more = omega arith
 
 -- it is still the one that the rules pick, while its key is less than every other
-pub wins_picked : (tree : Tree) (d : Dispatcher) (i : ℕ) (here : i < length d.servers) (among : i < d.count) → d.count ≤ 64
+pub wins_picked : (tree : WinnerTree) (d : Dispatcher) (i : ℕ) (here : i < length d.servers) (among : i < d.count) → d.count ≤ 64
     → d.count ≤ tree.leaves
     → ((j : ℕ) → j < tree.leaves → (j ≡ i → ⊥) → key_at tree j ≡ key_of (server_at d j) j) → (n : ℕ)
     → n * (server_at d i).budget.ticks < (server_at d i).waiting.ticks

@@ -8,6 +8,7 @@ use native.Mathlib.Decide.{ℕ_discrete}
 use native.Mathlib.Omega.{arith}
 use Rattle.sizes.specs.Sizes.{most_arrivals, most_servers}
 use Rattle.workfile.specs.Work.{Work}
+use Rattle.books.specs.declared.JobLines.{JobLines}
 use Rattle.books.proofs.Jobs.Jobs.{NextJob, work_other}
 
 -- Of the arrivals from k on: the first job of each server, and the job behind each.
@@ -26,9 +27,9 @@ pub lined_follow : {w : Work} {first behind : List ℕ} → Lined w 0 first behi
 lined_follow l = record { places = l.behind_places; behinds = λ a to. l.behinds a (omega arith) to }
 
 -- before they are lined up: each server's is the count of all arrivals
-pub record Unlined (w : Work) (first behind : List ℕ) : Type 0 where
-  pub first_is : first ≡ replicate most_servers w.arrivals
-  pub places : length behind ≡ most_arrivals
+pub record Unlined (w : Work) (l : JobLines) : Type 0 where
+  pub job_is : l.job ≡ replicate most_servers w.arrivals
+  pub places : length l.behind ≡ most_arrivals
 
 -- behind all arrivals no server has a job
 pub lined_none : {w : Work} {behind : List ℕ} → length behind ≡ most_arrivals

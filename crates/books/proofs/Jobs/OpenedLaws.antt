@@ -10,7 +10,8 @@ use Rattle.dispatcher.specs.Pick.{server_at}
 use Rattle.dispatcher.specs.declared.Dispatcher.{Dispatcher}
 use Rattle.judgement.proofs.FitLaws.{Fit}
 use Rattle.sizes.specs.Sizes.{most_servers}
-use Rattle.books.proofs.Book.{Run, JobBook, job_book}
+use Rattle.books.specs.declared.JobLines.{JobLines}
+use Rattle.books.proofs.Book.{Run, JobBook, job_book, lines_with}
 use Rattle.books.proofs.Jobs.JobBooks.{Jobs, jobs_set, jobs_left}
 use Rattle.books.proofs.Jobs.Jobs.{Job, job_opens, waits_taken}
 use Rattle.books.proofs.Jobs.Opened.{Opened, Serves}
@@ -19,40 +20,41 @@ use Rattle.books.proofs.Travel.Stands.{Stands}
 module _ {r : Run} {t j i places : ℕ} {d : Dispatcher} {b : JobBook} (fit : Fit r.work places) (s : Stands r.work t j d)
     (x : Jobs r t j b) (here : i < most_servers) (waits : 0 < (server_at d i).waiting.ticks) where
   -- where nothing is left of it, what waits is work of the server's job
-  module _ (none : get_or b.left i 0 ≡ 0) where
+  module _ (none : get_or b.lines.left i 0 ≡ 0) where
     abbrev cost : ℕ
-    cost = (r.work.arrival (get_or b.job i 0)).cost.ticks
+    cost = (r.work.arrival (get_or b.lines.job i 0)).cost.ticks
 
-    unopened : Job r.work t j i (get_or b.job i 0) 0
-    unopened = subst (Job r.work t j i (get_or b.job i 0)) none (x.each i here)
+    unopened : Job r.work t j i (get_or b.lines.job i 0) 0
+    unopened = subst (Job r.work t j i (get_or b.lines.job i 0)) none (x.each i here)
 
-    opened_place : get_or b.job i 0 < r.work.arrivals
+    opened_place : get_or b.lines.job i 0 < r.work.arrivals
     opened_place = omega (arith, waits_taken fit s.count unopened (omega (arith, s.adds i)), s.count)
 
-    opened_books : Jobs r t j (job_book b.job (set b.left i cost) b.finishes)
+    opened_books : Jobs r t j (job_book (lines_with b.lines b.lines.job (set b.lines.left i cost)) b.finishes)
     opened_books =
-        jobs_left b.job i
+        jobs_left b.lines i
         (jobs_set i here x (λ n l other. x.each n l) (job_opens fit s.count unopened (omega (arith, s.adds i))) x.finishes_is)
 
-    opened_some : 0 < get_or (set b.left i cost) i 0
+    opened_some : 0 < get_or (set b.lines.left i cost) i 0
     opened_some =
         omega (
           arith,
-          get_or-set_same b.left i cost 0 (omega (arith, x.left_places)),
-          (fit.sound (get_or b.job i 0) opened_place).from,
+          get_or-set_same b.lines.left i cost 0 (omega (arith, x.left_places)),
+          (fit.sound (get_or b.lines.job i 0) opened_place).from,
         )
 
-  pub serves : Serves r.work i b.job b.left
+  pub serves : Serves r.work i b.lines
   serves = record { place = here; places = x.left_places; another = opened_place }
 
   -- with its job opened the server has some of it left, and the books stand as before
-  pub opened_jobs : {left' : List ℕ} {rest : ℕ} → Opened r.work i b.job b.left left' rest
-      → Jobs r t j (job_book b.job left' b.finishes) × (0 < get_or left' i 0)
-  opened_jobs {left'} o = go (dec_lt 0 (get_or b.left i 0))
+  pub opened_jobs : {lines : JobLines} {rest : ℕ} → Opened r.work i b.lines lines rest
+      → Jobs r t j (job_book lines b.finishes) × (0 < get_or lines.left i 0)
+  opened_jobs {lines} o = go (dec_lt 0 (get_or b.lines.left i 0))
     where
-      Stand : List ℕ → Type 0
-      Stand l = Jobs r t j (job_book b.job l b.finishes) × (0 < get_or l i 0)
+      Stand : JobLines → Type 0
+      Stand l = Jobs r t j (job_book l b.finishes) × (0 < get_or l.left i 0)
 
-      go : Dec (0 < get_or b.left i 0) → Stand left'
+      go : Dec (0 < get_or b.lines.left i 0) → Stand lines
       go (yes some) = subst⁻¹ Stand (o.stays some) (x, some)
-      go (no l) = let none : get_or b.left i 0 ≡ 0 = omega arith in subst⁻¹ Stand (o.opens none) (opened_books none, opened_some none)
+      go (no l) =
+          let none : get_or b.lines.left i 0 ≡ 0 = omega arith in subst⁻¹ Stand (o.opens none) (opened_books none, opened_some none)

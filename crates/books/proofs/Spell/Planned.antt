@@ -9,14 +9,16 @@ use Rattle.moments.proofs.OneGo.{served_for}
 use Rattle.server.specs.declared.Server.{Server}
 use Rattle.sizes.specs.Sizes.{clock_end, most_frame}
 use Rattle.books.specs.declared.PlannedSpell.{PlannedSpell}
-use Rattle.books.proofs.Book.{TurnBook}
+use Rattle.books.specs.declared.Turns.{Turns}
+use Rattle.books.proofs.Book.{SegmentBook}
 use Rattle.books.proofs.Budgets.Budgets.{Able, budgets_on, Further}
 use Rattle.books.proofs.Stretches.Turns.{Bounded}
 use Rattle.books.proofs.Tree.Keys.{key_of}
-use Rattle.books.proofs.Tree.Winners.{Tree, Leaf}
+use Rattle.books.specs.declared.WinnerTree.{WinnerTree}
+use Rattle.books.proofs.Tree.Winners.{Leaf}
 
 -- what it may rely on when it is planned: the server has work, budget and time, and no number is too large
-pub record MayPlan (tree : Tree) (i : ℕ) (s : Server) (most : ℕ) : Type 0 where
+pub record MayPlan (tree : WinnerTree) (i : ℕ) (s : Server) (most : ℕ) : Type 0 where
   pub leaf : Leaf tree i
   pub able : Able s
   pub early : s.deadline.tick ≤ most_frame * clock_end
@@ -32,14 +34,14 @@ pub record MayServe (s : Server) (k : ℕ) : Type 0 where
   pub deadline : s.deadline.tick + s.period.ticks ≤ last_tick
 
 -- and when it goes, from t on
-pub record MayGo (t i : ℕ) (s : Server) (most : ℕ) (b : TurnBook) : Type 0 where
+pub record MayGo (t i : ℕ) (s : Server) (most : ℕ) (b : Turns) (x : SegmentBook) : Type 0 where
   pub plans : MayPlan b.tree i s most
   pub in_time : t + most ≤ clock_end
-  pub bounded : Bounded clock_end t b.segments
+  pub bounded : Bounded clock_end t x
   pub few : get_or b.postponed i 0 ≤ clock_end
-  pub few_interrupted : get_or b.interrupted b.segments.current.server 0 ≤ clock_end
+  pub few_interrupted : get_or b.interrupted x.current.server 0 ≤ clock_end
 
-pub record Planned (tree : Tree) (i : ℕ) (s : Server) (most : ℕ) (p : PlannedSpell) : Type 0 where
+pub record Planned (tree : WinnerTree) (i : ℕ) (s : Server) (most : ℕ) (p : PlannedSpell) : Type 0 where
   -- at least one tick, within its budget and as many as it goes for at most
   pub some : 0 < p.ticks.ticks
   pub inside : p.ticks.ticks ≤ most

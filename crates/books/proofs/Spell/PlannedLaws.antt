@@ -16,12 +16,13 @@ use Rattle.server.specs.Ranges.{Ranged}
 use Rattle.server.specs.declared.Server.{Server}
 use Rattle.sizes.specs.Sizes.{clock_end, most_frame}
 use Rattle.books.proofs.Budgets.BudgetLaws.{periods_few}
-use Rattle.books.proofs.Book.{TurnBook}
+use Rattle.books.proofs.Book.{SegmentBook}
 use Rattle.books.proofs.Budgets.Budgets.{Able, Budgets, BudgetsFrom, budgets_on, Further}
 use Rattle.books.proofs.Tree.Keys.{key_of}
 use Rattle.books.specs.declared.PlannedSpell.{PlannedSpell}
+use Rattle.books.specs.declared.Turns.{Turns}
 use Rattle.books.proofs.Spell.Planned.{MayPlan, MayGo, Planned}
-use Rattle.books.proofs.Tree.Winners.{Tree}
+use Rattle.books.specs.declared.WinnerTree.{WinnerTree}
 
 -- A server within its ranges before the end of the clock.
 module _ {t : Moment} {s : Server} (ranged : Ranged t s) (before : t.tick < clock_end) where
@@ -80,7 +81,7 @@ left_works : (ticks : ℕ) {spare most waiting n : ℕ} → ticks + spare ≤ mo
 left_works ticks within work few = omega arith
 
 -- The ticks of a spell, the server after them, and how many are left.
-module _ {tree : Tree} {i : ℕ} {s : Server} {most ticks spare : ℕ} {after : Server} (may : MayPlan tree i s most)
+module _ {tree : WinnerTree} {i : ℕ} {s : Server} {most ticks spare : ℕ} {after : Server} (may : MayPlan tree i s most)
     (ticks_is : ticks ≡ min s.remaining.ticks most) (after_is : after ≡ served_for s ticks)
     (spare_is : spare ≡ most - ticks) where
   pub after_able : Able after
@@ -155,7 +156,7 @@ module _ {tree : Tree} {i : ℕ} {s : Server} {most ticks spare : ℕ} {after : 
         }
 
 -- a spell postpones its server at most once more than it has budgets, and each budget takes a tick at least
-pub planned_few : {tree : Tree} {i : ℕ} {s : Server} {most : ℕ} {p : PlannedSpell} → Planned tree i s most p
+pub planned_few : {tree : WinnerTree} {i : ℕ} {s : Server} {most : ℕ} {p : PlannedSpell} → Planned tree i s most p
     → 1 ≤ s.budget.ticks → p.postponed ≤ most + 1
 planned_few {s = s} {p = p} plan one =
     omega (
@@ -168,8 +169,8 @@ planned_few {s = s} {p = p} plan one =
     )
 
 -- there is work and time for its budgets, which begin behind its ticks
-pub planned_budgets : {tree : Tree} {t i : ℕ} {s : Server} {most : ℕ} {b : TurnBook} {p : PlannedSpell}
-    → MayGo t i s most b → Planned tree i s most p → BudgetsFrom (t + p.ticks.ticks) i p.after p.budgets
+pub planned_budgets : {tree : WinnerTree} {t i : ℕ} {s : Server} {most : ℕ} {b : Turns} {x : SegmentBook} {p : PlannedSpell}
+    → MayGo t i s most b x → Planned tree i s most p → BudgetsFrom (t + p.ticks.ticks) i p.after p.budgets
 planned_budgets may plan =
     record {
       place = omega (arith, may.plans.leaf.place, may.plans.leaf.winners.few);

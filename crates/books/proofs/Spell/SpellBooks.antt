@@ -21,7 +21,8 @@ use Rattle.server.specs.declared.Server.{Server}
 use Rattle.sizes.specs.Sizes.{most_servers}
 use Rattle.books.specs.declared.Gone.{Gone}
 use Rattle.books.specs.declared.PlannedSpell.{PlannedSpell}
-use Rattle.books.proofs.Book.{Run, Here, here, Book, book, SegmentBook, TurnBook, turn_book, JobBook, job_book}
+use Rattle.books.specs.declared.Turns.{Turns}
+use Rattle.books.proofs.Book.{Run, Here, here, Book, book, SegmentBook, turns_of, JobBook, job_book, lines_with}
 use Rattle.books.proofs.Budgets.BudgetBooks.{budget_book, on_all}
 use Rattle.books.proofs.Budgets.Budgets.{budgets_on, ran_budgets, turned_on, Further, wins_picked}
 use Rattle.books.proofs.Jobs.JobBooks.{Jobs}
@@ -39,12 +40,12 @@ use Rattle.books.proofs.Tree.Keys.{key_of, Keyed, holds_set}
 use Rattle.books.proofs.Tree.Winners.{Set}
 
 -- The spell of the picked server i, once its job is opened, for so many ticks at most: none comes behind that job or the next arrival.
-pub record Spelled (r : Run) (h : Here) (b : Book) (i most : ℕ) (turns : TurnBook) (g : Gone) : Type 0 where
+pub record Spelled (r : Run) (h : Here) (b : Book) (i most : ℕ) (turns : Turns) (segments : SegmentBook) (g : Gone) : Type 0 where
   pub pick : Earliest h.dispatcher h.dispatcher.count i
-  pub some : 0 < get_or b.jobs.left i 0
-  pub of_job : most ≤ get_or b.jobs.left i 0
+  pub some : 0 < get_or b.jobs.lines.left i 0
+  pub of_job : most ≤ get_or b.jobs.lines.left i 0
   pub ahead : Ahead r.work h (h.t + most)
-  pub leaves : SpellLeaves h.t i (server_at h.dispatcher i) most b.turns turns g
+  pub leaves : SpellLeaves h.t i (server_at h.dispatcher i) most b.turns turns b.segments segments g
 
 -- where the run stands when it is over
 abbrev pub here_after : Here → ℕ → Gone → Here
@@ -52,8 +53,8 @@ here_after h i g =
     here (h.t + g.gone.ticks) h.taken
     (standing h.dispatcher (moment (h.t + g.gone.ticks)) (set h.dispatcher.servers i g.server))
 
-module _ {r : Run} {h : Here} {b : Book} (fit : Fit r.work (length r.finishes)) (v : Travels r h b) {i most : ℕ} {turns : TurnBook}
-    {g : Gone} (x : Spelled r h b i most turns g) where
+module _ {r : Run} {h : Here} {b : Book} (fit : Fit r.work (length r.finishes)) (v : Travels r h b) {i most : ℕ} {turns : Turns}
+    {segments : SegmentBook} {g : Gone} (x : Spelled r h b i most turns segments g) where
   abbrev d : Dispatcher
   d = h.dispatcher
 
@@ -61,7 +62,7 @@ module _ {r : Run} {h : Here} {b : Book} (fit : Fit r.work (length r.finishes)) 
   s = server_at d i
 
   abbrev left : ℕ
-  left = get_or b.jobs.left i 0
+  left = get_or b.jobs.lines.left i 0
 
   abbrev spell : PlannedSpell
   spell = x.leaves.spell
@@ -129,24 +130,24 @@ module _ {r : Run} {h : Here} {b : Book} (fit : Fit r.work (length r.finishes)) 
     postponed_then = get_or b.turns.postponed i 0 + cond (eqb (suc m) s.remaining.ticks) 1 0
 
     abbrev interrupted_then : List ℕ
-    interrupted_then = interruptions_after b.turns.segments.current i b.turns.interrupted
+    interrupted_then = interruptions_after b.segments.current i b.turns.interrupted
 
     abbrev ran_book : JobBook → Book
     ran_book jobs =
         book
-        (turn_book b.turns.tree (set b.turns.postponed i postponed_then) interrupted_then
-        (after_ticks b.turns.segments h.t i s.deadline spell.after))
+        (turns_of b.turns.tree (set b.turns.postponed i postponed_then) interrupted_then)
+        (after_ticks b.segments h.t i s.deadline spell.after)
         jobs
 
-    module _ {jobs : JobBook} (stand : Jobs r then h.taken jobs) (of_job : p.spare ≤ get_or jobs.left i 0) where
+    module _ {jobs : JobBook} (stand : Jobs r then h.taken jobs) (of_job : p.spare ≤ get_or jobs.lines.left i 0) where
       kept_then : Kept r (here then h.taken ran) (ran_book jobs)
       kept_then =
           subst
           (λ (x : Server).
           Kept r (here then h.taken ran)
           (book
-          (turn_book b.turns.tree (set b.turns.postponed i postponed_then) interrupted_then
-          (after_ticks b.turns.segments h.t i s.deadline x))
+          (turns_of b.turns.tree (set b.turns.postponed i postponed_then) interrupted_then)
+          (after_ticks b.segments h.t i s.deadline x)
           jobs))
           after_is
           (kept_ran fit v.kept m to_horizon none_before i pick x.some inside budget stand)
@@ -164,7 +165,7 @@ module _ {r : Run} {h : Here} {b : Book} (fit : Fit r.work (length r.finishes)) 
       place_then : i < length ran.servers
       place_then = omega (arith, within_then.places, server)
 
-      waits_more : 0 < get_or jobs.left i 0 → get_or jobs.left i 0 ≤ its.waiting.ticks
+      waits_more : 0 < get_or jobs.lines.left i 0 → get_or jobs.lines.left i 0 ≤ its.waiting.ticks
       waits_more l = job_waiting (stand.each i server) l (kept_then.stands.adds i)
 
       ends_by : then + n * its.budget.ticks ≤ h.t + most
@@ -182,7 +183,7 @@ module _ {r : Run} {h : Here} {b : Book} (fit : Fit r.work (length r.finishes)) 
               → Kept r (here (then + n * its.budget.ticks) h.taken (ran_budgets ran i n)) (budget_book (ran_book jobs) then i its n)
           go zero q = let no : ⊥ = omega (arith, (within_then.servers i pick.among).budget) in absurd no
           go (suc q) e =
-              on_all fit place_then server q e kept_then (turned_own b.turns.segments h.t i s.deadline).0 n further.full
+              on_all fit place_then server q e kept_then (turned_own b.segments h.t i s.deadline).0 n further.full
               (λ o l.
               wins_picked b.turns.tree ran i place_then pick.among within.count v.keyed.enough
               (λ a y other. v.keyed.keys a y ∙ ap (λ (z : Server). key_of z a) (sym (other_then a other)))
@@ -211,11 +212,8 @@ module _ {r : Run} {h : Here} {b : Book} (fit : Fit r.work (length r.finishes)) 
               set-set d.servers i (served_for s (suc m)) (budgets_on its n)
               ∙ ap (set d.servers i) (ap (λ (x : Server). budgets_on x n) own_then ∙ sym p.last_is ∙ sym x.leaves.server_is)
 
-      turns_are : (budget_book (ran_book jobs) then i its n).turns
-          ≡ turn_book b.turns.tree turns.postponed turns.interrupted turns.segments
-      turns_are =
-          ap₂ (λ (l : List ℕ) (y : SegmentBook). turn_book b.turns.tree l interrupted_then y) postponed_are segments_are
-          ∙ ap (λ (l : List ℕ). turn_book b.turns.tree turns.postponed l turns.segments) (sym x.leaves.interrupted_is)
+      turns_are : (budget_book (ran_book jobs) then i its n).turns ≡ turns_of b.turns.tree turns.postponed turns.interrupted
+      turns_are = ap₂ (turns_of b.turns.tree) postponed_are (sym x.leaves.interrupted_is)
         where
           postponed_are : set (set b.turns.postponed i postponed_then) i (get_or (set b.turns.postponed i postponed_then) i 0 + n)
               ≡ turns.postponed
@@ -230,12 +228,12 @@ module _ {r : Run} {h : Here} {b : Book} (fit : Fit r.work (length r.finishes)) 
               ))
               ∙ sym x.leaves.postponed_is
 
-          segments_are : turned_on (after_ticks b.turns.segments h.t i s.deadline spell.after) then i its n ≡ turns.segments
-          segments_are =
-              ap₂ (λ (k : ℕ) (x : Server). turned_on (after_ticks b.turns.segments h.t i s.deadline spell.after) (h.t + k) i x n)
-              (sym ticks_are)
-              own_then
-              ∙ sym x.leaves.segments_is
+      segments_are : turned_on (after_ticks b.segments h.t i s.deadline spell.after) then i its n ≡ segments
+      segments_are =
+          ap₂ (λ (k : ℕ) (x : Server). turned_on (after_ticks b.segments h.t i s.deadline spell.after) (h.t + k) i x n)
+          (sym ticks_are)
+          own_then
+          ∙ sym x.leaves.segments_is
 
       -- the tree
       keyed_over : Keyed turns.tree (here_after h i g).dispatcher
@@ -249,44 +247,46 @@ module _ {r : Run} {h : Here} {b : Book} (fit : Fit r.work (length r.finishes)) 
               ∙ ap (λ (x : Server). key_of x i) (sym x.leaves.server_is ∙ sym (get_or-set_same d.servers i g.server vacant place))
 
       went_so : {after : JobBook}
-          → job_book jobs.job (set jobs.left i (get_or jobs.left i 0 - n * spell.after.budget.ticks)) jobs.finishes ≡ after
-          → Travels r (here_after h i g) (book turns after)
+          → job_book (lines_with jobs.lines jobs.lines.job (set jobs.lines.left i (get_or jobs.lines.left i 0 - n * spell.after.budget.ticks))) jobs.finishes ≡ after
+          → Travels r (here_after h i g) (book turns segments after)
       went_so {after} jobs-are =
           record {
             kept =
                 kept_tree turns.tree
                 (subst₂ (Kept r) over_is
-                (ap₂ book turns_are (ap (λ (y : Server). job_book jobs.job (left_after y) jobs.finishes) own_then ∙ jobs-are))
+                (ap₂ (λ (y : Turns) (z : SegmentBook). book y z (budget_book (ran_book jobs) then i its n).jobs) turns_are segments_are
+                ∙ ap (book (turns_of b.turns.tree turns.postponed turns.interrupted) segments)
+                (ap (λ (y : Server). job_book (lines_with jobs.lines jobs.lines.job (left_after y)) jobs.finishes) own_then ∙ jobs-are))
                 on_then);
             horizon = omega (arith, gone_is, budgets_spare, p.left, x.ahead.in_time);
             keyed = keyed_over;
           }
         where
           left_after : Server → List ℕ
-          left_after y = set jobs.left i (get_or jobs.left i 0 - n * y.budget.ticks)
+          left_after y = set jobs.lines.left i (get_or jobs.lines.left i 0 - n * y.budget.ticks)
 
     -- what is left of the job after the ticks
     abbrev pub left_then : List ℕ
-    left_then = set b.jobs.left i (left - suc m)
+    left_then = set b.jobs.lines.left i (left - suc m)
 
     pub its_left : get_or left_then i 0 ≡ left - suc m
-    its_left = get_or-set_same b.jobs.left i (left - suc m) 0 (omega (arith, v.kept.jobs.left_places, server))
+    its_left = get_or-set_same b.jobs.lines.left i (left - suc m) 0 (omega (arith, v.kept.jobs.left_places, server))
 
     of_job : p.spare ≤ get_or left_then i 0
     of_job = omega (arith, its_left, p.left, x.of_job)
 
     -- something is left
     pub spell_ran : suc m < left → {after : JobBook}
-        → job_book b.jobs.job (set left_then i (get_or left_then i 0 - n * spell.after.budget.ticks)) b.jobs.finishes ≡ after
-        → Travels r (here_after h i g) (book turns after)
+        → job_book (lines_with b.jobs.lines b.jobs.lines.job (set left_then i (get_or left_then i 0 - n * spell.after.budget.ticks))) b.jobs.finishes ≡ after
+        → Travels r (here_after h i g) (book turns segments after)
     spell_ran more = went_so (ran_jobs fit v.kept m to_horizon none_before i pick x.some inside budget more) of_job
 
     -- or nothing, and the next job stands behind it
     pub spell_ended : r.work.arrivals ≤ length r.finishes → suc m ≡ left → {next : ℕ}
-        → NextJob r.work i (suc (get_or b.jobs.job i 0)) next → {after : JobBook}
-        → job_book (set b.jobs.job i next) (set left_then i (get_or left_then i 0 - n * spell.after.budget.ticks))
-        (set b.jobs.finishes (get_or b.jobs.job i 0) then)
+        → NextJob r.work i (suc (get_or b.jobs.lines.job i 0)) next → {after : JobBook}
+        → job_book (lines_with b.jobs.lines (set b.jobs.lines.job i next) (set left_then i (get_or left_then i 0 - n * spell.after.budget.ticks)))
+        (set b.jobs.finishes (get_or b.jobs.lines.job i 0) then)
         ≡ after
-        → Travels r (here_after h i g) (book turns after)
+        → Travels r (here_after h i g) (book turns segments after)
     spell_ended long all follows =
         went_so (ran_jobs_ended fit v.kept m to_horizon none_before i pick x.some inside budget long all follows) of_job

@@ -14,10 +14,11 @@ use Rattle.judgement.proofs.FitLaws.{Fit}
 use Rattle.server.specs.declared.Server.{Server}
 use Rattle.sizes.specs.Sizes.{clock_end, most_servers}
 use Rattle.books.specs.declared.Gone.{Gone}
-use Rattle.books.proofs.Book.{Run, Here, here, Book, book, TurnBook, JobBook, job_book}
+use Rattle.books.specs.declared.JobLines.{JobLines}
+use Rattle.books.specs.declared.Turns.{Turns}
+use Rattle.books.proofs.Book.{Run, Here, here, Book, book, SegmentBook, JobBook, job_book}
 use Rattle.books.proofs.Jobs.JobBooks.{Jobs}
 use Rattle.books.proofs.Jobs.Jobs.{NextJob, job_waiting}
-use Rattle.books.proofs.Jobs.Lined.{Follow}
 use Rattle.books.proofs.Jobs.Opened.{MayGoOn, Opened, Serves, WentOn}
 use Rattle.books.proofs.Jobs.OpenedLaws.{serves, opened_jobs}
 use Rattle.books.proofs.Spell.Planned.{MayGo}
@@ -30,11 +31,11 @@ use Rattle.books.proofs.Travel.BetweenEvents.{Ahead, clock_now, bounded, postpon
 use Rattle.books.proofs.Travel.Travels.{OnTheWay, Travels, travels_jobs}
 
 -- when it is over, at moment t: it has taken some time; and with its job gone on by so much the run is on its way as before
-pub record SpellOver (r : Run) (h : Here) (i until stop : ℕ) (t : Moment) (jobs : JobBook) (turns : TurnBook) (g : Gone) : Type 0 where
+pub record SpellOver (r : Run) (h : Here) (i until stop : ℕ) (t : Moment) (jobs : JobBook) (turns : Turns) (segments : SegmentBook) (g : Gone) : Type 0 where
   pub later : h.t < t.tick
   pub may_go_on : MayGoOn i g.gone.ticks t.tick jobs
-  pub keeps : {behind : List ℕ} {after : JobBook} → Follow r.work behind → WentOn i g.gone.ticks t.tick behind jobs after
-      → OnTheWay r (here t.tick h.taken (standing h.dispatcher t (set h.dispatcher.servers i g.server))) (book turns after) until
+  pub keeps : {after : JobBook} → WentOn i g.gone.ticks t.tick jobs after
+      → OnTheWay r (here t.tick h.taken (standing h.dispatcher t (set h.dispatcher.servers i g.server))) (book turns segments after) until
       stop
       g.root
 
@@ -47,30 +48,29 @@ module _ {r : Run} {h : Here} {b : Book} (fit : Fit r.work (length r.finishes)) 
   pub place : i < most_servers
   place = picked_server fit v pick
 
-  pub picked_serves : Serves r.work i b.jobs.job b.jobs.left
+  pub picked_serves : Serves r.work i b.jobs.lines
   picked_serves = serves fit v.kept.stands v.kept.jobs place (picked_waits fit v pick)
 
   -- Once its job is opened, of which so much is left.
-  module _ {left : List ℕ} {rest : ℕ} (o : Opened r.work i b.jobs.job b.jobs.left left rest) where
+  module _ {lines : JobLines} {rest : ℕ} (o : Opened r.work i b.jobs.lines lines rest) where
     abbrev opened : JobBook
-    opened = job_book b.jobs.job left b.jobs.finishes
+    opened = job_book lines b.jobs.finishes
 
-    jobs_opened : Jobs r h.t h.taken opened × (0 < get_or left i 0)
+    jobs_opened : Jobs r h.t h.taken opened × (0 < get_or lines.left i 0)
     jobs_opened = opened_jobs fit v.kept.stands v.kept.jobs place (picked_waits fit v pick) o
 
-    its_work : get_or left i 0 ≤ s.waiting.ticks
+    its_work : get_or lines.left i 0 ≤ s.waiting.ticks
     its_work = job_waiting (jobs_opened.0.each i place) jobs_opened.1 (v.kept.stands.adds i)
 
     -- its job is one of the arrivals, and the one behind it is the server's next
-    its_job : get_or b.jobs.job i 0 < r.work.arrivals
+    its_job : get_or lines.job i 0 < r.work.arrivals
     its_job = omega (arith, (jobs_opened.0.each i place).taken jobs_opened.1, v.kept.stands.count)
 
-    behind_it : {behind : List ℕ} → Follow r.work behind
-        → NextJob r.work i (suc (get_or b.jobs.job i 0)) (get_or behind (get_or b.jobs.job i 0) 0)
-    behind_it {behind} follows =
-        subst (λ (n : ℕ). NextJob r.work n (suc (get_or b.jobs.job i 0)) (get_or behind (get_or b.jobs.job i 0) 0))
+    behind_it : NextJob r.work i (suc (get_or lines.job i 0)) (get_or lines.behind (get_or lines.job i 0) 0)
+    behind_it =
+        subst (λ (n : ℕ). NextJob r.work n (suc (get_or lines.job i 0)) (get_or lines.behind (get_or lines.job i 0) 0))
         ((jobs_opened.0.each i place).own its_job)
-        (follows.behinds _ its_job)
+        (jobs_opened.0.follows.behinds _ its_job)
 
     -- Up to a moment ahead it goes for as many ticks as its job and the time have.
     module _ {stop : ℕ} (ahead : Ahead r.work h stop) {room : Length} (room_is : room ≡ record { ticks = stop - h.t })
@@ -84,7 +84,7 @@ module _ {r : Run} {h : Here} {b : Book} (fit : Fit r.work (length r.finishes)) 
       clock_early : h.dispatcher.clock.tick < clock_end
       clock_early = omega (arith, clock_now fit v, ahead.some, ahead.in_time, fit.horizon)
 
-      pub may_go : MayGo h.t i s most b.turns
+      pub may_go : MayGo h.t i s most b.turns b.segments
       may_go =
           record {
             plans =
@@ -100,12 +100,12 @@ module _ {r : Run} {h : Here} {b : Book} (fit : Fit r.work (length r.finishes)) 
             in_time = omega (arith, reach, ahead.in_time, fit.horizon);
             bounded = bounded fit v;
             few = postponed_few fit v i place;
-            few_interrupted = interrupted_few fit v b.turns.segments.current.server;
+            few_interrupted = interrupted_few fit v b.segments.current.server;
           }
 
       -- It has gone.
-      module _ {turns : TurnBook} {g : Gone} (leaves : SpellLeaves h.t i s most b.turns turns g) where
-        spelled : Spelled r h (book b.turns opened) i most turns g
+      module _ {turns : Turns} {segments : SegmentBook} {g : Gone} (leaves : SpellLeaves h.t i s most b.turns turns b.segments segments g) where
+        spelled : Spelled r h (book b.turns b.segments opened) i most turns segments g
         spelled =
             record {
               pick = pick;
@@ -128,7 +128,7 @@ module _ {r : Run} {h : Here} {b : Book} (fit : Fit r.work (length r.finishes)) 
 
         over : r.work.arrivals ≤ length r.finishes → {until root : ℕ} {from : Here}
             → Taking r.work until from h b.turns.tree stop root
-            → SpellOver r h i until stop (moment (h.t + g.gone.ticks)) opened turns g
+            → SpellOver r h i until stop (moment (h.t + g.gone.ticks)) opened turns segments g
         over long way =
             record {
               later = omega (arith, gone_is, leaves.planned.some, leaves.planned.gone_is);
@@ -140,9 +140,9 @@ module _ {r : Run} {h : Here} {b : Book} (fit : Fit r.work (length r.finishes)) 
                     listed = omega (arith, its_job, finishes_long fit v, long);
                     time = omega (arith, ends, ahead.in_time, fit.horizon);
                   };
-              keeps = λ follows went.
+              keeps = λ went.
                   record {
-                    travels = spell_went fit (travels_jobs v jobs_opened.0) spelled long (behind_it follows) went;
+                    travels = spell_went fit (travels_jobs v jobs_opened.0) spelled long behind_it went;
                     by = omega (arith, ends, next_by way);
                     next_is = way.next_is;
                     root_is = leaves.root_is;
@@ -151,8 +151,8 @@ module _ {r : Run} {h : Here} {b : Book} (fit : Fit r.work (length r.finishes)) 
 
         pub spell_over : r.work.arrivals ≤ length r.finishes → {until root : ℕ} {from : Here}
             → Taking r.work until from h b.turns.tree stop root → {t : Moment} → t ≡ up_to_last (later (moment h.t) g.gone)
-            → SpellOver r h i until stop t opened turns g
+            → SpellOver r h i until stop t opened turns segments g
         spell_over long {until} way is =
-            subst⁻¹ (λ (m : Moment). SpellOver r h i until stop m opened turns g)
+            subst⁻¹ (λ (m : Moment). SpellOver r h i until stop m opened turns segments g)
             (is ∙ up_to_last_whole (moment (h.t + g.gone.ticks)) (omega (arith, ends, ahead.in_time, fit.horizon)))
             (over long way)

@@ -22,10 +22,11 @@ use Rattle.books.proofs.Accepted.{next_stop, stop_arrival, stop_behind, stop_unt
 use Rattle.books.proofs.Book.{Here, here}
 use Rattle.books.proofs.Tree.Keys.{key_of, Keyed, holds_set}
 use Rattle.books.proofs.Travel.Stands.{Stands, stands_within, stands_count, room, accepted_as, stands_arrival}
-use Rattle.books.proofs.Tree.Winners.{Tree, root_of, Leaf, Set}
+use Rattle.books.specs.declared.WinnerTree.{WinnerTree}
+use Rattle.books.proofs.Tree.Winners.{root_of, Leaf, Set}
 
 -- what a server may rely on that takes work at t: it has a place in the tree, its numbers are in their ranges, and it has room for the work
-pub record MayTake (tree : Tree) (i : ℕ) (s : Server) (t : Moment) (cost : Length) : Type 0 where
+pub record MayTake (tree : WinnerTree) (i : ℕ) (s : Server) (t : Moment) (cost : Length) : Type 0 where
   pub leaf : Leaf tree i
   pub ranged : Ranged t s
   pub time : t.tick ≤ clock_end
@@ -35,10 +36,10 @@ pub record MayTake (tree : Tree) (i : ℕ) (s : Server) (t : Moment) (cost : Len
 -- stands behind the arrival, and a tree in which its key is set is that dispatcher's.
 pub record Takes (w : Work) (t j : ℕ) (d : Dispatcher) (a : Arrival) : Type 0 where
   pub place : a.server < 64
-  pub may : {tree : Tree} → Keyed tree d → MayTake tree a.server (server_at d a.server) d.clock a.cost
+  pub may : {tree : WinnerTree} → Keyed tree d → MayTake tree a.server (server_at d a.server) d.clock a.cost
   pub stands : (s : Server) → s ≡ arrived (server_at d a.server) d.clock a.cost
       → Stands w t (suc j) (with_server d a.server s)
-  pub keyed : {tree after : Tree} (s : Server) → Keyed tree d → Set tree after a.server (key_of s a.server)
+  pub keyed : {tree after : WinnerTree} (s : Server) → Keyed tree d → Set tree after a.server (key_of s a.server)
       → Keyed after (with_server d a.server s)
 
 module _ {w : Work} {places t j : ℕ} {d : Dispatcher} (fit : Fit w places) (s : Stands w t j d) (end : t ≤ clock_end)
@@ -76,7 +77,7 @@ module _ {w : Work} {places t j : ℕ} {d : Dispatcher} (fit : Fit w places) (s 
       }
 
 -- while they are taken: from where the run stood on to here, with how far it then goes at most, and what the root of the tree holds
-pub record Taking (w : Work) (until : ℕ) (from h : Here) (tree : Tree) (next root : ℕ) : Type 0 where
+pub record Taking (w : Work) (until : ℕ) (from h : Here) (tree : WinnerTree) (next root : ℕ) : Type 0 where
   pub same_moment : h.t ≡ from.t
   pub stands : Stands w h.t h.taken h.dispatcher
   pub keyed : Keyed tree h.dispatcher
@@ -84,11 +85,11 @@ pub record Taking (w : Work) (until : ℕ) (from h : Here) (tree : Tree) (next r
   pub next_is : next ≡ next_stop w until h.taken
   pub root_is : root ≡ root_of tree
 
-pub next_by : {w : Work} {until : ℕ} {from h : Here} {tree : Tree} {next root : ℕ} → Taking w until from h tree next root → next ≤ until
+pub next_by : {w : Work} {until : ℕ} {from h : Here} {tree : WinnerTree} {next root : ℕ} → Taking w until from h tree next root → next ≤ until
 next_by {w} {until} {h = h} g = omega (arith, g.next_is, stop_until w until h.taken)
 
 -- Where the next stop is no later than now, and the run is to go on, there is an arrival of this moment, and that is taken.
-module _ {w : Work} {until : ℕ} {from h : Here} {tree : Tree} {next root : ℕ} (g : Taking w until from h tree next root) (ahead : h.t < until)
+module _ {w : Work} {until : ℕ} {from h : Here} {tree : WinnerTree} {next root : ℕ} (g : Taking w until from h tree next root) (ahead : h.t < until)
     (due : next ≤ h.t) where
   pub due_here : h.taken < w.arrivals
   due_here = go (dec_lt h.taken w.arrivals)
@@ -100,7 +101,7 @@ module _ {w : Work} {until : ℕ} {from h : Here} {tree : Tree} {next root : ℕ
   pub due_now : (w.arrival h.taken).moment.tick ≤ h.t
   due_now = omega (arith, g.next_is, stop_arrival w until h.taken due_here)
 
-  pub taking_more : {after : Tree} {e : Dispatcher} {then top : ℕ} → Stands w h.t (suc h.taken) e → Keyed after e
+  pub taking_more : {after : WinnerTree} {e : Dispatcher} {then top : ℕ} → Stands w h.t (suc h.taken) e → Keyed after e
       → then ≡ next_stop w until (suc h.taken) → top ≡ root_of after → Taking w until from (here h.t (suc h.taken) e) after then top
   taking_more stands keyed next_is root_is =
       record {

@@ -56,12 +56,12 @@ module _ {r : Run} {h : Here} {b : Book} (fit : Fit r.work (length r.finishes)) 
   clock_now = ap (λ (m : Moment). m.tick) (stands_clock fit v.kept.stands before_end)
 
   -- the current stretch and the counts
-  pub bounded : Bounded clock_end h.t b.turns.segments
+  pub bounded : Bounded clock_end h.t b.segments
   bounded =
       let x = segmented_bounded v.kept.segmented in record { from = x.from; counted = omega (arith, x.counted, before_end) }
 
   -- in k ticks at most k segments end
-  pub ended_few : r.lent_at + b.turns.segments.current.count ≤ h.t
+  pub ended_few : r.lent_at + b.segments.current.count ≤ h.t
   ended_few = v.kept.segmented.few
 
   pub postponed_few : (i : ℕ) → i < most_servers → get_or b.turns.postponed i 0 ≤ clock_end
@@ -77,7 +77,7 @@ module _ {r : Run} {h : Here} {b : Book} (fit : Fit r.work (length r.finishes)) 
       ∙ finishes_length r.work.arrivals r.finishes (finish r.work (history r.work) h.t)
 
   -- the trace list
-  pub list_long : length b.turns.segments.list ≡ length r.list
+  pub list_long : length b.segments.list ≡ length r.list
   list_long =
       let s = v.kept.segmented.segments in ap length s.written_is ∙ written_length s.since r.list
 

@@ -22,7 +22,7 @@ use Rattle.moments.specs.Moments.{history, postponed_by, waiting_at}
 use Rattle.server.specs.declared.Server.{Server}
 use Rattle.sizes.specs.Sizes.{clock_end, most_servers}
 use Rattle.workfile.specs.Work.{Work}
-use Rattle.books.proofs.Book.{Run, here, JobBook, job_book, Book, SegmentBook, turn_book, book, with_segments, with_waits}
+use Rattle.books.proofs.Book.{Run, here, JobBook, job_book, lines_with, Book, SegmentBook, turns_of, book, with_segments, with_waits}
 use Rattle.books.proofs.Jobs.FinishList.{finishes_same, finishes_one}
 use Rattle.books.proofs.Jobs.JobBooks.{Jobs, jobs_set, jobs_left}
 use Rattle.books.proofs.Jobs.Jobs.{Job, job_waits, job_goes_on, job_ends, job_waiting, NextJob, idle_ends_none, run_ends_no_other, job_was_open, job_still_open, job_finishes}
@@ -54,6 +54,7 @@ module _ {r : Run} {places t j : ℕ} {d : Dispatcher} {b : Book} (fit : Fit r.w
           job_places = x.jobs.job_places;
           left_places = x.jobs.left_places;
           each = λ i l. job_waits (t + suc k) (idle_unserved fit s k end later none i) (x.jobs.each i l);
+          follows = x.jobs.follows;
           finishes_is =
               x.jobs.finishes_is
               ∙ finishes_same w.arrivals r.finishes (finish w (history w) t) (finish w (history w) (t + suc k)) (λ a l. sym (same a));
@@ -67,18 +68,18 @@ module _ {r : Run} {places t j : ℕ} {d : Dispatcher} {b : Book} (fit : Fit r.w
         }
 
     abbrev waited : SegmentBook
-    waited = turned b.turns.segments t most_servers (moment 0)
+    waited = turned b.segments t most_servers (moment 0)
 
     idle_segmented : Segmented r waited (t + suc k)
     idle_segmented =
-        subst (λ (y : SegmentBook). Segmented r y (t + suc k)) (waits_kept b.turns.segments t most_servers (moment 0))
-        (segmented_then x.segmented k most_servers b.turns.segments.current.waits (moment 0) (λ b. (refl, refl))
+        subst (λ (y : SegmentBook). Segmented r y (t + suc k)) (waits_kept b.segments t most_servers (moment 0))
+        (segmented_then x.segmented k most_servers b.segments.current.waits (moment 0) (λ b. (refl, refl))
         (λ q b. idle_history fit s k end later none q b ∙ sym (chosen_nobody most_servers (moment 0) (omega arith)))
         (λ b. let no : ⊥ = omega arith in absurd no))
 
     idle_interruptions : Interruptions w waited.current.start.tick b.turns.interrupted
     idle_interruptions =
-        let y = b.turns.segments in
+        let y = b.segments in
         turned_start y t most_servers (moment 0) (λ e. Interruptions w e b.turns.interrupted) (λ on. x.interruptions)
         (λ ends.
         interruptions_idle y.current x.segmented.stretch x.interruptions
@@ -95,13 +96,13 @@ module _ {r : Run} {places t j : ℕ} {d : Dispatcher} {b : Book} (fit : Fit r.w
         }
 
   -- Server i runs, on the job that it serves.
-  module _ (i : ℕ) (p : Earliest d d.count i) (some : 0 < get_or b.jobs.left i 0) (within : suc k ≤ get_or b.jobs.left i 0)
+  module _ (i : ℕ) (p : Earliest d d.count i) (some : 0 < get_or b.jobs.lines.left i 0) (within : suc k ≤ get_or b.jobs.lines.left i 0)
       (budget : suc k ≤ (server_at d i).remaining.ticks) where
     abbrev job : ℕ
-    job = get_or b.jobs.job i 0
+    job = get_or b.jobs.lines.job i 0
 
     abbrev left : ℕ
-    left = get_or b.jobs.left i 0
+    left = get_or b.jobs.lines.left i 0
 
     among : i < most_servers
     among = omega (arith, p.among, (stands_within fit s (omega (arith, end))).count)
@@ -116,7 +117,7 @@ module _ {r : Run} {places t j : ℕ} {d : Dispatcher} {b : Book} (fit : Fit r.w
     history_is = event_history fit s k end later i p budget its_work
 
     -- the jobs of the others wait
-    others_wait : (n : ℕ) → n < most_servers → (n ≡ i → ⊥) → Job w (t + suc k) j n (get_or b.jobs.job n 0) (get_or b.jobs.left n 0)
+    others_wait : (n : ℕ) → n < most_servers → (n ≡ i → ⊥) → Job w (t + suc k) j n (get_or b.jobs.lines.job n 0) (get_or b.jobs.lines.left n 0)
     others_wait n l other = job_waits (t + suc k) (event_unserved fit s k end later i p budget its_work n other) (x.jobs.each n l)
 
     its_ticks : ticks_served (history w) i (t + suc k) ≡ ticks_served (history w) i t + suc k
@@ -129,9 +130,9 @@ module _ {r : Run} {places t j : ℕ} {d : Dispatcher} {b : Book} (fit : Fit r.w
     its_place = omega (arith, its.taken some, s.count)
 
     -- its own job goes on
-    pub ran_jobs : suc k < left → Jobs r (t + suc k) j (job_book b.jobs.job (set b.jobs.left i (left - suc k)) b.jobs.finishes)
+    pub ran_jobs : suc k < left → Jobs r (t + suc k) j (job_book (lines_with b.jobs.lines b.jobs.lines.job (set b.jobs.lines.left i (left - suc k))) b.jobs.finishes)
     ran_jobs more =
-        jobs_left b.jobs.job i
+        jobs_left b.jobs.lines i
         (jobs_set i among x.jobs others_wait (job_goes_on (suc k) its some within its_ticks more)
         (x.jobs.finishes_is
         ∙ finishes_same w.arrivals r.finishes (finish w (history w) t) (finish w (history w) (t + suc k))
@@ -147,7 +148,7 @@ module _ {r : Run} {places t j : ℕ} {d : Dispatcher} {b : Book} (fit : Fit r.w
     -- or has ended, and the next one stands behind it
     pub ran_jobs_ended : w.arrivals ≤ length r.finishes → suc k ≡ left → {next : ℕ} → NextJob w i (suc job) next
         → Jobs r (t + suc k) j
-        (job_book (set b.jobs.job i next) (set b.jobs.left i (left - suc k)) (set b.jobs.finishes job (t + suc k)))
+        (job_book (lines_with b.jobs.lines (set b.jobs.lines.job i next) (set b.jobs.lines.left i (left - suc k))) (set b.jobs.finishes job (t + suc k)))
     ran_jobs_ended long e {next} behind =
         jobs_set i among x.jobs others_wait
         (subst (Job w (t + suc k) j i next) nothing (job_ends (suc k) its some within its_ticks e behind))
@@ -209,7 +210,7 @@ module _ {r : Run} {places t j : ℕ} {d : Dispatcher} {b : Book} (fit : Fit r.w
 
     -- the segments
     abbrev ran_segments : SegmentBook
-    ran_segments = with_waits (turned b.turns.segments t i (server_at d i).deadline) (served_for (server_at d i) (suc k)).waiting
+    ran_segments = with_waits (turned b.segments t i (server_at d i).deadline) (served_for (server_at d i) (suc k)).waiting
 
     ran_segmented : Segmented r ran_segments (t + suc k)
     unfolding waiting_at
@@ -223,11 +224,11 @@ module _ {r : Run} {places t j : ℕ} {d : Dispatcher} {b : Book} (fit : Fit r.w
 
     -- the interruptions
     abbrev interrupted_now : List ℕ
-    interrupted_now = interruptions_after b.turns.segments.current i b.turns.interrupted
+    interrupted_now = interruptions_after b.segments.current i b.turns.interrupted
 
     ran_interruptions : Interruptions w ran_segments.current.start.tick interrupted_now
     ran_interruptions =
-        let y = b.turns.segments in
+        let y = b.segments in
         let deadline = (server_at d i).deadline in
         turned_start y t i deadline (λ e. Interruptions w e interrupted_now)
         (λ on.
@@ -242,7 +243,7 @@ module _ {r : Run} {places t j : ℕ} {d : Dispatcher} {b : Book} (fit : Fit r.w
 
     -- all of it, with whatever book of jobs holds then
     pub kept_ran : {jobs : JobBook} → Jobs r (t + suc k) j jobs
-        → Kept r (here (t + suc k) j (ran_for d i (suc k))) (book (turn_book b.turns.tree counted interrupted_now ran_segments) jobs)
+        → Kept r (here (t + suc k) j (ran_for d i (suc k))) (book (turns_of b.turns.tree counted interrupted_now) ran_segments jobs)
     kept_ran jobs =
         record {
           stands = event_stands fit s k end later i p budget its_work;

@@ -22,7 +22,7 @@ use Rattle.books.proofs.Tree.Winners.{root_of}
 
 module _ {r : Run} {h : Here} {b : Book} (fit : Fit r.work (length r.finishes)) (v : Travels r h b)
     (none : root_of b.turns.tree ≡ last_tick) {stop : ℕ} (ahead : Ahead r.work h stop) {segments : SegmentBook}
-    (segments_is : segments ≡ turned b.turns.segments h.t most_servers (moment 0)) where
+    (segments_is : segments ≡ turned b.segments h.t most_servers (moment 0)) where
   -- the dispatcher then
   abbrev then : Dispatcher
   then = standing h.dispatcher (moment stop) h.dispatcher.servers
@@ -37,7 +37,7 @@ module _ {r : Run} {h : Here} {b : Book} (fit : Fit r.work (length r.finishes)) 
       go zero q = let no : ⊥ = omega (arith, ahead.some) in absurd no
       go (suc k) q =
           subst (λ (x : SegmentBook). Kept r (here stop h.taken then) (with_segments b x)) (sym segments_is)
-          (subst (λ (x : Here). Kept r x (with_segments b (turned b.turns.segments h.t most_servers (moment 0))))
+          (subst (λ (x : Here). Kept r x (with_segments b (turned b.segments h.t most_servers (moment 0))))
           (ap₂ (λ (u c : ℕ). here u h.taken (standing h.dispatcher (moment c) h.dispatcher.servers)) reach reached)
           (kept_idle fit v.kept k (omega (arith, ahead.in_time)) (λ a l m. omega (arith, ahead.later a l m)) (root_none v.keyed (now_within fit v) none)))
         where

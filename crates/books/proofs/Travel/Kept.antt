@@ -12,7 +12,7 @@ use Rattle.books.proofs.Jobs.JobBooks.{Jobs}
 use Rattle.books.proofs.Stretches.Interruptions.{Interruptions}
 use Rattle.books.proofs.Stretches.Segmented.{Segmented}
 use Rattle.books.proofs.Travel.Stands.{Stands}
-use Rattle.books.proofs.Tree.Winners.{Tree}
+use Rattle.books.specs.declared.WinnerTree.{WinnerTree}
 
 -- the postponements of each server
 pub record Counts (w : Work) (t : ℕ) (postponed : List ℕ) : Type 0 where
@@ -30,8 +30,8 @@ pub record Kept (r : Run) (h : Here) (b : Book) : Type 0 where
   pub stands : Stands r.work h.t h.taken h.dispatcher
   pub jobs : Jobs r h.t h.taken b.jobs
   pub counts : Counts r.work h.t b.turns.postponed
-  pub segmented : Segmented r b.turns.segments h.t
-  pub interruptions : Interruptions r.work b.turns.segments.current.start.tick b.turns.interrupted
+  pub segmented : Segmented r b.segments h.t
+  pub interruptions : Interruptions r.work b.segments.current.start.tick b.turns.interrupted
 
-pub kept_tree : {r : Run} {h : Here} {b : Book} (tree : Tree) → Kept r h b → Kept r h (with_tree b tree)
+pub kept_tree : {r : Run} {h : Here} {b : Book} (tree : WinnerTree) → Kept r h b → Kept r h (with_tree b tree)
 kept_tree tree x = record { stands = x.stands; jobs = x.jobs; counts = x.counts; segmented = x.segmented; interruptions = x.interruptions }

@@ -15,12 +15,13 @@ use Rattle.server.proofs.PassedOverLaws.{idle_passed_over}
 use Rattle.sizes.specs.Sizes.{most_servers}
 use Rattle.workfile.specs.Work.{Work, work}
 use Rattle.books.specs.declared.Current.{Current}
+use Rattle.books.specs.declared.JobLines.{JobLines}
 use Rattle.books.proofs.Accepted.{Accepted, next_stop}
-use Rattle.books.proofs.Book.{Run, lent_in, Here, here, Book, book, turn_book, JobBook, job_book, segment_book, with_segments, with_tree}
+use Rattle.books.proofs.Book.{Run, lent_in, Here, here, Book, book, turns_of, JobBook, job_book, segment_book, with_segments, with_tree}
 use Rattle.books.proofs.Jobs.FinishList.{finishes_again}
 use Rattle.books.proofs.Jobs.JobBooks.{Jobs, jobs_start, jobs_later}
 use Rattle.books.proofs.Jobs.Jobs.{NextJob}
-use Rattle.books.proofs.Jobs.Lined.{Follow}
+use Rattle.books.proofs.Jobs.Lined.{Lined}
 use Rattle.books.proofs.Stretches.Interruptions.{interruptions_start}
 use Rattle.books.proofs.Stretches.Segmented.{at_rest, segmented_start}
 use Rattle.books.proofs.Stretches.Segments.{segments_lent}
@@ -28,7 +29,8 @@ use Rattle.books.proofs.Travel.ArrivalTaken.{Taking}
 use Rattle.books.proofs.Travel.Kept.{Kept, counts_start}
 use Rattle.books.proofs.Travel.Stands.{stands_start, start_waits_none}
 use Rattle.books.proofs.Tree.Keys.{key_passed_over, Keyed}
-use Rattle.books.proofs.Tree.Winners.{Tree, tree_of, root_of, Enough, winners_same}
+use Rattle.books.specs.declared.WinnerTree.{WinnerTree}
+use Rattle.books.proofs.Tree.Winners.{tree_same, root_of, Enough, winners_same}
 
 -- All that is kept, not behind the horizon, and the winner tree holds the servers' keys.
 pub record Travels (r : Run) (h : Here) (b : Book) : Type 0 where
@@ -43,23 +45,22 @@ pub record OnTheWay (r : Run) (h : Here) (b : Book) (until next root : ℕ) : Ty
   pub next_is : next ≡ next_stop r.work until h.taken
   pub root_is : root ≡ root_of b.turns.tree
 
--- What a run may rely on that goes on to `until`: its file was accepted, the finish list is long enough, and the jobs are lined up.
-pub record MayTravel (file behind : List ℕ) (until : ℕ) (r : Run) (h : Here) (b : Book) : Type 0 where
+-- What a run may rely on that goes on to `until`: its file was accepted, and the finish list is long enough.
+pub record MayTravel (file : List ℕ) (until : ℕ) (r : Run) (h : Here) (b : Book) : Type 0 where
   pub accepted : Accepted file
   pub long : (work file).arrivals ≤ length r.finishes
   pub ahead : h.t ≤ until
   pub in_time : until ≤ (work file).horizon.tick
-  pub follows : Follow (work file) behind
   pub travels : Travels r h b
 
 -- the book at the start
-abbrev pub start_book : ℕ → List ℕ → List ℕ → List ℕ → Book
-start_book leaves first list finishes =
-    book (turn_book (tree_of leaves (replicate 128 last_tick)) (replicate most_servers 0) (replicate most_servers 0) (segment_book list at_rest))
-    (job_book first (replicate most_servers 0) finishes)
+abbrev pub start_book : ℕ → JobLines → List ℕ → List ℕ → Book
+start_book leaves lines list finishes =
+    book (turns_of (tree_same leaves last_tick) (replicate most_servers 0) (replicate most_servers 0)) (segment_book list at_rest)
+    (job_book lines finishes)
 
 -- at the start every server is idle
-start_keyed : (w : Work) {leaves : ℕ} → Enough w.table.count leaves → Keyed (tree_of leaves (replicate 128 last_tick)) (at_moment w 0)
+start_keyed : (w : Work) {leaves : ℕ} → Enough w.table.count leaves → Keyed (tree_same leaves last_tick) (at_moment w 0)
 unfolding at_moment at_start
 start_keyed w {leaves} e =
     record {
@@ -70,17 +71,17 @@ start_keyed w {leaves} e =
           ∙ sym (key_passed_over (server_at (at_moment w 0) i) i (idle_passed_over (server_at (at_moment w 0) i) (eq-eqb _ _ (start_waits_none w i))));
     }
 
--- with the finish list as it is when every job is open, and the first job of each server
-pub travels_start : {w : Work} {leaves : ℕ} (list finishes : List ℕ) {first : List ℕ} → Fit w (length finishes) → Enough w.table.count leaves
-    → finishes ≡ finish_list w.arrivals (λ k. is_open) finishes → length first ≡ most_servers
-    → ((i : ℕ) → i < most_servers → NextJob w i 0 (get_or first i 0))
-    → Travels (lent_in w 0 at_rest list finishes) (here 0 0 (at_moment w 0)) (start_book leaves first list finishes)
-travels_start {w} list finishes fit leaves opened long firsts =
+-- with the finish list as it is when every job is open, and the jobs lined up
+pub travels_start : {w : Work} {leaves : ℕ} (list finishes : List ℕ) {lines : JobLines} → Fit w (length finishes) → Enough w.table.count leaves
+    → finishes ≡ finish_list w.arrivals (λ k. is_open) finishes → Lined w 0 lines.job lines.behind
+    → lines.left ≡ replicate most_servers 0
+    → Travels (lent_in w 0 at_rest list finishes) (here 0 0 (at_moment w 0)) (start_book leaves lines list finishes)
+travels_start {w} list finishes fit leaves opened lined left =
     record {
       kept =
           record {
             stands = stands_start w;
-            jobs = jobs_start fit opened long firsts;
+            jobs = jobs_start fit opened lined left;
             counts = counts_start w;
             segmented = segmented_start w list finishes;
             interruptions = interruptions_start w;
@@ -103,7 +104,7 @@ taking_none x =
     }
 
 -- and then those that are
-pub travels_taking : {r : Run} {h k : Here} {b : Book} {tree : Tree} {until next root : ℕ} → Travels r h b
+pub travels_taking : {r : Run} {h k : Here} {b : Book} {tree : WinnerTree} {until next root : ℕ} → Travels r h b
     → Taking r.work until h k tree next root → Travels r k (with_tree b tree)
 travels_taking v g =
     record {
@@ -121,7 +122,7 @@ travels_taking v g =
 
 -- the job of a server is opened
 pub travels_jobs : {r : Run} {h : Here} {b : Book} {jobs : JobBook} → Travels r h b → Jobs r h.t h.taken jobs
-    → Travels r h (book b.turns jobs)
+    → Travels r h (book b.turns b.segments jobs)
 travels_jobs v jobs =
     record {
       kept = record { stands = v.kept.stands; jobs = jobs; counts = v.kept.counts; segmented = v.kept.segmented; interruptions = v.kept.interruptions };
@@ -134,8 +135,8 @@ abbrev pub counted_anew : Current → Current
 counted_anew c = record { start = c.start; server = c.server; deadline = c.deadline; waits = c.waits; count = 0 }
 
 pub travels_again : {r : Run} {h : Here} {b : Book} (another : List ℕ) → Travels r h b
-    → Travels (lent_in r.work h.t b.turns.segments.current another b.jobs.finishes) h
-    (with_segments b (segment_book another (counted_anew b.turns.segments.current)))
+    → Travels (lent_in r.work h.t b.segments.current another b.jobs.finishes) h
+    (with_segments b (segment_book another (counted_anew b.segments.current)))
 travels_again {r} {h} {b} another v =
     let w = r.work in
     let s = v.kept.segmented in
@@ -149,6 +150,7 @@ travels_again {r} {h} {b} another v =
                   job_places = x.job_places;
                   left_places = x.left_places;
                   each = x.each;
+                  follows = x.follows;
                   finishes_is =
                       x.finishes_is
                       ∙ sym (finishes_again w.arrivals (finish w (history w) h.t) (finish w (history w) h.t) r.finishes)
@@ -158,7 +160,7 @@ travels_again {r} {h} {b} another v =
             segmented =
                 record {
                   stretch = s.stretch;
-                  segments = segments_lent w h.t b.turns.segments.current another b.jobs.finishes;
+                  segments = segments_lent w h.t b.segments.current another b.jobs.finishes;
                   few = omega arith;
                   waiting = s.waiting;
                   alike = s.alike;

@@ -24,13 +24,13 @@ module _ {r : Run} {h : Here} {b : Book} (v : Travels r h b) (end : r.work.horiz
   w = r.work
 
   abbrev c : Current
-  c = b.turns.segments.current
+  c = b.segments.current
 
   at_horizon : h.t ≡ w.horizon.tick
   at_horizon = le_antisymm v.horizon end
 
   -- with the last stretch all segments that ended since the list was lent are written, and counted
-  last_segment : Segments r (list_after c h.t b.turns.segments.list) (count_after c) h.t
+  last_segment : Segments r (list_after c h.t b.segments.list) (count_after c) h.t
   last_segment = segments_end c v.kept.segmented.stretch v.kept.segmented.segments
 
   -- of a list that was lent at the start they are the trace
@@ -41,7 +41,7 @@ module _ {r : Run} {h : Here} {b : Book} (v : Travels r h b) (end : r.work.horiz
         ∙ sym last_segment.trace_is
         ∙ ap (trace (history w)) at_horizon
 
-    pub list_whole : list_after c h.t b.turns.segments.list ≡ written (trace (history w) w.horizon.tick) r.list
+    pub list_whole : list_after c h.t b.segments.list ≡ written (trace (history w) w.horizon.tick) r.list
     list_whole = last_segment.written_is ∙ ap (λ (l : List Segment). written l r.list) since_whole
 
     pub count_whole : count_after c ≡ length (trace (history w) w.horizon.tick)

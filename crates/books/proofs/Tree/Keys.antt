@@ -12,7 +12,8 @@ use Rattle.dispatcher.specs.declared.Dispatcher.{Dispatcher}
 use Rattle.server.proofs.RangeLaws.{deadline_below}
 use Rattle.server.specs.Server.{passed_over}
 use Rattle.server.specs.declared.Server.{Server}
-use Rattle.books.proofs.Tree.Winners.{Tree, key_at, root_of, Winners, Set, root_least, root_some}
+use Rattle.books.specs.declared.WinnerTree.{WinnerTree}
+use Rattle.books.proofs.Tree.Winners.{key_at, root_of, Winners, Set, root_least, root_some}
 
 -- the deadline and then the number of a server; the last number for one that is passed over
 unfoldable pub key_of : Server → ℕ → ℕ
@@ -27,13 +28,13 @@ unfolding key_of
 key_works s i e = rw e
 
 -- A tree that holds some key of each of a dispatcher's servers.
-pub record Holds (key : Server → ℕ → ℕ) (tree : Tree) (d : Dispatcher) : Type 0 where
+pub record Holds (key : Server → ℕ → ℕ) (tree : WinnerTree) (d : Dispatcher) : Type 0 where
   pub winners : Winners tree
   pub enough : d.count ≤ tree.leaves
   pub keys : (i : ℕ) → i < tree.leaves → key_at tree i ≡ key (server_at d i) i
 
 -- with another server at place i, and its key set
-pub holds_set : {key : Server → ℕ → ℕ} {tree after : Tree} {d e : Dispatcher} (i : ℕ) → Holds key tree d → e.count ≡ d.count
+pub holds_set : {key : Server → ℕ → ℕ} {tree after : WinnerTree} {d e : Dispatcher} (i : ℕ) → Holds key tree d → e.count ≡ d.count
     → ((j : ℕ) → (j ≡ i → ⊥) → server_at e j ≡ server_at d j) → Set tree after i (key (server_at e i) i) → Holds key after e
 holds_set {key} {tree} {after} {d} {e} i k same others s =
     record {
@@ -47,11 +48,11 @@ holds_set {key} {tree} {after} {d} {e} i k same others s =
     go j b (no other) = s.elsewhere j b other ∙ k.keys j b ∙ ap (λ (x : Server). key x j) (sym (others j other))
 
 -- the one that tells the pick
-abbrev pub Keyed : Tree → Dispatcher → Type 0
+abbrev pub Keyed : WinnerTree → Dispatcher → Type 0
 Keyed = Holds key_of
 
 -- Within the ranges no key of a server with work is the last number.
-module _ {tree : Tree} {d : Dispatcher} (k : Keyed tree d) (ok : Within d) where
+module _ {tree : WinnerTree} {d : Dispatcher} (k : Keyed tree d) (ok : Within d) where
   key_below : (i : ℕ) → i < d.count → (server_at d i).deadline.tick * 64 + i < last_tick
   key_below i b = omega (arith, deadline_below (ok.servers i b) ok.clock, ok.count)
 

@@ -1,26 +1,24 @@
 -- A winner tree with n leaves, in a list of 128 numbers: the keys of as many servers stand at places n to 2n - 1, and each place p from 1
 -- to n - 1 holds the lesser of those at 2p and 2p + 1. Place 0 and those from 2n on are unused.
 use Prim.Native.Nat.{ℕ, zero, suc, ◌+◌, ◌*◌, ◌-◌, ◌/◌, ◌^◌, ◌≤◌, ◌<◌, max, min}
-use lib.ListN.{length, get_or, replicate, length-replicate, get_or-replicate}
+use lib.ListN.{length, get_or, set, replicate, length-replicate, get_or-replicate}
 use mathlib.Core.List.{List}
 use mathlib.Core.Logic.{◌≢◌}
 use mathlib.Core.Path.{◌≡◌, sym, ◌∙◌, ap, subst⁻¹, subst₂}
 use native.Mathlib.Decide.{dec_le, dec_lt, ℕ_discrete}
 use native.Mathlib.Nat.{min-eq_left, pow-succ'}
 use native.Mathlib.Omega.{arith}
+use Rattle.books.specs.declared.WinnerTree.{WinnerTree}
 
-pub record Tree : Type 0 where
-  pub leaves : ℕ
-  pub keys : List ℕ
-
-abbrev pub tree_of : ℕ → List ℕ → Tree
-tree_of leaves keys = record { leaves = leaves; keys = keys }
+-- a tree with another number at a place
+abbrev pub with_place : WinnerTree → ℕ → ℕ → WinnerTree
+with_place tree p v = record { leaves = tree.leaves; keys = set tree.keys p v }
 
 -- the key of server i, and what stands at the root
-abbrev pub key_at : Tree → ℕ → ℕ
+abbrev pub key_at : WinnerTree → ℕ → ℕ
 key_at tree i = get_or tree.keys (tree.leaves + i) 0
 
-abbrev pub root_of : Tree → ℕ
+abbrev pub root_of : WinnerTree → ℕ
 root_of tree = get_or tree.keys 1 0
 
 -- the place p holds the lesser of the two below it
@@ -28,7 +26,7 @@ abbrev pub Lesser : List ℕ → ℕ → Type 0
 Lesser keys p = get_or keys p 0 ≡ min (get_or keys (2 * p) 0) (get_or keys (2 * p + 1) 0)
 
 -- each place above the keys does; the keys stand in pairs, one at least
-pub record Winners (tree : Tree) : Type 0 where
+pub record Winners (tree : WinnerTree) : Type 0 where
   pub places : length tree.keys ≡ 128
   pub some : 2 ≤ tree.leaves
   pub few : tree.leaves ≤ 64
@@ -36,7 +34,7 @@ pub record Winners (tree : Tree) : Type 0 where
   pub lesser : (p : ℕ) → 1 ≤ p → p < tree.leaves → Lesser tree.keys p
 
 -- server i has a place in it
-pub record Leaf (tree : Tree) (i : ℕ) : Type 0 where
+pub record Leaf (tree : WinnerTree) (i : ℕ) : Type 0 where
   pub place : i < tree.leaves
   pub winners : Winners tree
 
@@ -45,14 +43,14 @@ abbrev pub Beside : ℕ → ℕ → Type 0
 Beside q s = q + s ≡ 4 * (q / 2) + 1
 
 -- the tree `exit` is the tree `entry` with another key at server i
-pub record Set (entry exit : Tree) (i key : ℕ) : Type 0 where
+pub record Set (entry exit : WinnerTree) (i key : ℕ) : Type 0 where
   pub winners : Winners exit
   pub same_leaves : exit.leaves ≡ entry.leaves
   pub here : key_at exit i ≡ key
   pub elsewhere : (j : ℕ) → j < entry.leaves → j ≢ i → key_at exit j ≡ key_at entry j
 
 -- r is the least key of the servers other than i
-pub record Rival (tree : Tree) (i r : ℕ) : Type 0 where
+pub record Rival (tree : WinnerTree) (i r : ℕ) : Type 0 where
   pub least : (j : ℕ) → j < tree.leaves → j ≢ i → r ≤ key_at tree j
   pub some : (j : ℕ) × (j < tree.leaves) × (j ≢ i) × (r ≡ key_at tree j)
 
@@ -65,7 +63,7 @@ beside_cases P q s e left right = go (ℕ_discrete q (2 * (q / 2)))
     go (yes p) = subst₂ P (sym p) (omega arith) left
     go (no p) = subst₂ P (omega arith) (omega arith) right
 
-module _ {tree : Tree} (w : Winners tree) where
+module _ {tree : WinnerTree} (w : Winners tree) where
   abbrev n : ℕ
   n = tree.leaves
 
@@ -116,7 +114,10 @@ module _ {tree : Tree} (w : Winners tree) where
   root_some = some_of (2 * n) 1 (omega arith) (omega arith) (omega (arith, w.some))
 
 -- one key everywhere
-pub winners_same : (n k : ℕ) → 2 ≤ n → n ≤ 64 → 2 * (n / 2) ≡ n → Winners (tree_of n (replicate 128 k))
+abbrev pub tree_same : ℕ → ℕ → WinnerTree
+tree_same n k = record { leaves = n; keys = replicate 128 k }
+
+pub winners_same : (n k : ℕ) → 2 ≤ n → n ≤ 64 → 2 * (n / 2) ≡ n → Winners (tree_same n k)
 winners_same n k some few pairs =
     record {
       places = length-replicate 128 k;

@@ -3,8 +3,8 @@ use native.Mathlib.Omega.{arith}
 use Rattle.books.proofs.Budgets.BudgetLaws.{further_none, further_some}
 use Rattle.run.proofs.budgets.further.Goals as goal
 
-pub returns-then-keys-other_half : goal.returns-then-keys-other_half
-returns-then-keys-other_half c = further_none _ _ _ _
+pub returns-then-tree-other_half : goal.returns-then-tree-other_half
+returns-then-tree-other_half c = further_none _ _ _ _
 
 pub returns-then-rival-own : goal.returns-then-rival-own
 returns-then-rival-own c = further_none _ _ _ _

@@ -6,6 +6,7 @@ use Rattle.run.proofs.jobs.go_on.Goals as goal
 pub returns-then-rest-eq0 : goal.returns-then-rest-eq0
 returns-then-rest-eq0 c =
     record {
+      behind_is = refl;
       left_is = refl;
       goes_on = λ some. let no : ⊥ = omega (arith, c.if-rest-eq0.true) in absurd no;
       ends = λ none. (refl, refl);
@@ -14,6 +15,7 @@ returns-then-rest-eq0 c =
 pub returns-else-rest-eq0 : goal.returns-else-rest-eq0
 returns-else-rest-eq0 c =
     record {
+      behind_is = refl;
       left_is = refl;
       goes_on = λ some. (refl, refl);
       ends = λ none. absurd (c.if-rest-eq0.false none);

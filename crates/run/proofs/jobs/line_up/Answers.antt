@@ -1,8 +1,8 @@
 -- `run::jobs::line_up` meets its promise: each turn puts one arrival more before those that are lined up.
 use Prim.Native.Nat.{ℕ, suc, ◌-◌, ◌≤◌, ◌<◌}
-use lib.ListN.{get_or, set}
+use lib.ListN.{get_or, set, replicate, length-replicate}
 use mathlib.Core.List.{List}
-use mathlib.Core.Path.{◌≡◌, sym, ap, subst, subst⁻¹, subst₂}
+use mathlib.Core.Path.{◌≡◌, refl, sym, ap, subst, subst⁻¹, subst₂}
 use native.Mathlib.Omega.{arith}
 use Rattle.arrival.specs.declared.Arrival.{Arrival}
 use Rattle.books.proofs.Accepted.{Accepted, arrivals_read}
@@ -16,9 +16,10 @@ loop-k-init c =
     let read = arrivals_read c.args.file.now c.header_of-h.ensures in
     record {
       lined =
-          subst₂ (λ (k : ℕ) (l : List ℕ). Lined (work c.args.file.now) k l c.args.behind.now) (sym read)
-          (sym c.requires.unlined.first_is)
+          subst₂ (λ (k : ℕ) (l : List ℕ). Lined (work c.args.file.now) k l c.args.lines.now.behind) (sym read)
+          (sym c.requires.unlined.job_is)
           (lined_none c.requires.unlined.places);
+      left = refl;
       within = omega (arith, read);
     }
 
@@ -40,10 +41,11 @@ loop-k-preserved c =
     record {
       lined =
           subst⁻¹
-          (λ (i : ℕ). Lined (work file) (l.k - 1) (set l.first i (l.k - 1)) (set l.behind (l.k - 1) (get_or l.first i 0)))
+          (λ (i : ℕ). Lined (work file) (l.k - 1) (set l.lines.job i (l.k - 1)) (set l.lines.behind (l.k - 1) (get_or l.lines.job i 0)))
           (ap (λ (a : Arrival). a.server) c.arrival_of-a.ensures)
-          (lined_more (subst (λ (n : ℕ). Lined (work file) n l.first l.behind) step l.invariant.lined)
+          (lined_more (subst (λ (n : ℕ). Lined (work file) n l.lines.job l.lines.behind) step l.invariant.lined)
           (few file c.requires.accepted l.k more within)
           (known file c.requires.accepted l.k more within));
+      left = l.invariant.left;
       within = omega (arith, within);
     }

@@ -4,7 +4,7 @@ use mathlib.Core.Path.{◌≡◌, sym, ◌∙◌, ap, subst, subst⁻¹}
 use native.Mathlib.Omega.{arith}
 use Rattle.books.proofs.Budgets.Budgets.{Further, budgets_none}
 use Rattle.books.proofs.Spell.PlannedLaws.{after_able, further_few, further_budgets, last_key, gone_few, planned, spent_number, spent_once}
-use Rattle.books.proofs.Tree.Winners.{Tree, tree_of}
+use Rattle.books.specs.declared.WinnerTree.{WinnerTree}
 use Rattle.clock.specs.Clock.{last_tick, ticks}
 use Rattle.clock.specs.declared.Length.{Length}
 use Rattle.server.specs.declared.Server.{Server}
@@ -14,7 +14,7 @@ ticks_are : {l : Length} {n : ℕ} → l ≡ ticks n → l.ticks ≡ n
 ticks_are e = ap (λ (l : Length). l.ticks) e
 
 -- where there are no budgets
-none : (tree : Tree) (i : ℕ) (s : Server) (spare : ℕ) {b : ℕ} → Further tree i s spare b → b ≡ 0 → Further tree i s spare 0
+none : (tree : WinnerTree) (i : ℕ) (s : Server) (spare : ℕ) {b : ℕ} → Further tree i s spare b → b ≡ 0 → Further tree i s spare 0
 none tree i s spare further e = subst (Further tree i s spare) e further
 
 pub serve-after-requires : goal.serve-after-requires
@@ -38,13 +38,13 @@ key_of-requires c =
     let a = c.args in
     subst (λ (x : Server). x.deadline.tick * 64 + a.i ≤ last_tick) (budgets_none c.serve-after.result)
     (last_key c.requires c.min.ensures c.serve-after.ensures (ticks_are c.less-spare.ensures)
-    (none (tree_of a.leaves a.keys.now) a.i c.serve-after.result c.less-spare.result.ticks c.further-budgets.ensures c.if-budgets-eq0.true))
+    (none a.tree.now a.i c.serve-after.result c.less-spare.result.ticks c.further-budgets.ensures c.if-budgets-eq0.true))
 
 pub returns-then-budgets-eq0 : goal.returns-then-budgets-eq0
 returns-then-budgets-eq0 c =
     let a = c.args in
     planned c.requires c.min.ensures c.serve-after.ensures (ticks_are c.less-spare.ensures)
-    (none (tree_of a.leaves a.keys.now) a.i c.serve-after.result c.less-spare.result.ticks c.further-budgets.ensures c.if-budgets-eq0.true)
+    (none a.tree.now a.i c.serve-after.result c.less-spare.result.ticks c.further-budgets.ensures c.if-budgets-eq0.true)
     (sym (budgets_none c.serve-after.result))
     c.key_of.ensures
     (omega arith)

@@ -3,7 +3,7 @@ use Prim.Native.Nat.{ℕ}
 use mathlib.Core.Path.{◌≡◌, ◌∙◌}
 use native.Mathlib.Omega.{arith}
 use Rattle.books.proofs.Travel.ArrivalTaken.{MayTake}
-use Rattle.books.proofs.Tree.Winners.{Tree}
+use Rattle.books.specs.declared.WinnerTree.{WinnerTree}
 use Rattle.clock.specs.declared.Length.{Length}
 use Rattle.clock.specs.declared.Moment.{Moment}
 use Rattle.server.specs.Moves.{arrived}
@@ -14,7 +14,7 @@ use Rattle.steps.specs.Steps.{after_arrival}
 use Rattle.run.proofs.taking.take.Goals as goal
 
 -- the server with the work
-taken : {tree : Tree} {i : ℕ} {s server : Server} {t : Moment} {cost : Length} → MayTake tree i s t cost → server ≡ after_arrival s t cost
+taken : {tree : WinnerTree} {i : ℕ} {s server : Server} {t : Moment} {cost : Length} → MayTake tree i s t cost → server ≡ after_arrival s t cost
     → server ≡ arrived s t cost
 taken {cost = cost} may is = is ∙ arrival_ranged may.ranged may.time cost may.room
 

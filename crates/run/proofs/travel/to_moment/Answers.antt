@@ -7,14 +7,13 @@ use native.Mathlib.Nat.{le_antisymm}
 use native.Mathlib.Numerals.{add-one}
 use native.Mathlib.Omega.{arith}
 use Rattle.books.proofs.Accepted.{fit_beside}
-use Rattle.books.proofs.Book.{Run, lent_in, Here, here, Book, TurnBook, turn_book, job_book, segment_book}
+use Rattle.books.proofs.Book.{Run, lent_in, Here, here, Book, SegmentBook, job_book, segment_book}
 use Rattle.books.proofs.Spell.SpellEvent.{place, picked_serves, may_go, SpellOver, spell_over}
 use Rattle.books.proofs.Stretches.Turns.{bounded_end}
 use Rattle.books.proofs.Travel.ArrivalTaken.{Takes, takes, due_here, due_now, taking_more}
 use Rattle.books.proofs.Travel.BetweenEvents.{Ahead, stop_ahead, bounded, root_pick, list_long, finishes_long}
 use Rattle.books.proofs.Travel.IdleTime.{idled_on}
 use Rattle.books.proofs.Travel.Travels.{MayTravel, taking_none, travels_taking}
-use Rattle.books.proofs.Tree.Winners.{tree_of}
 use Rattle.clock.specs.Clock.{moment}
 use Rattle.clock.specs.declared.Moment.{Moment}
 use Rattle.dispatcher.specs.Pick.{Earliest}
@@ -24,7 +23,7 @@ use Rattle.run.proofs.travel.to_moment.Goals as goal
 use Rattle.run.proofs.travel.to_moment.Goals.{In-loop-next, After-arrival_of-a, Else-root, After-later-t}
 
 -- the work fits beside the finish list that was lent
-its_fit : {file behind : List ℕ} {until : ℕ} {r : Run} {h : Here} {b : Book} → MayTravel file behind until r h b
+its_fit : {file : List ℕ} {until : ℕ} {r : Run} {h : Here} {b : Book} → MayTravel file until r h b
     → Fit (work file) (length r.finishes)
 its_fit pre = fit_beside _ pre.accepted.fit pre.long
 
@@ -155,10 +154,8 @@ pub bounds-d-i-else-root-2 : goal.bounds-d-i-else-root-2
 bounds-d-i-else-root-2 c = its_place (goal.at.bounds-d-i-else-root-2 c).Else-root
 
 -- Once the spell has gone.
-abbrev turns_after : After-later-t → TurnBook
-turns_after l =
-    turn_book (tree_of l.args.leaves l.go-g.new.keys) l.go-g.new.postponed l.go-g.new.interrupted
-    (segment_book l.go-g.new.list l.go-g.result.current)
+abbrev segments_after : After-later-t → SegmentBook
+segments_after l = segment_book l.go-g.new.list l.go-g.result.current
 
 over : (l : After-later-t)
     → SpellOver (lent_in (work l.args.file.now) l.args.from.moment.tick l.args.from.current l.args.list.now l.args.finishes.now)
@@ -167,8 +164,9 @@ over : (l : After-later-t)
     l.args.until.tick
     l.loop-next.next.tick
     l.later-t.result
-    (job_book l.loop-t.job l.left_of-rest.new.left l.loop-t.finishes)
-    (turns_after l)
+    (job_book l.left_of-rest.new.lines l.loop-t.finishes)
+    l.go-g.new.turns
+    (segments_after l)
     l.go-g.result
 over l =
     let fit = its_fit l.requires in
@@ -178,7 +176,7 @@ over l =
     (stop_ahead fit g.next_is l.loop-next-test.false l.requires.in_time)
     l.until-room.ensures
     l.min.ensures
-    {turns = turns_after l}
+    {segments = segments_after l}
     l.go-g.ensures
     l.requires.long
     g
@@ -191,7 +189,7 @@ pub loop-t-smaller : goal.loop-t-smaller
 loop-t-smaller c = omega (arith, (over (goal.at.loop-t-smaller c).After-later-t).later, c.loop-t-test.true)
 
 pub loop-t-preserved : goal.loop-t-preserved
-loop-t-preserved c = (over (goal.at.loop-t-preserved c).After-later-t).keeps c.requires.follows c.go_on.ensures
+loop-t-preserved c = (over (goal.at.loop-t-preserved c).After-later-t).keeps c.go_on.ensures
 
 pub shape_of-list : goal.shape_of-list
 shape_of-list c = list_long (its_fit c.requires) c.loop-t.invariant.travels

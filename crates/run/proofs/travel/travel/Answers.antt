@@ -5,15 +5,15 @@ use mathlib.Core.List.{List, []}
 use mathlib.Core.Path.{◌≡◌, sym, ◌∙◌, ap, subst, subst⁻¹}
 use native.Mathlib.Omega.{arith}
 use Rattle.books.proofs.Accepted.{arrivals_read, horizon_read, servers_read, fit_beside}
-use Rattle.books.proofs.Book.{lent_in, standing_at, Book, book, turn_book, job_book, segment_book}
+use Rattle.books.proofs.Book.{lent_in, standing_at, Book, book, turns_of, job_book, segment_book}
 use Rattle.books.proofs.Jobs.FinishList.{finishes_again, finishes_length}
-use Rattle.books.proofs.Jobs.Lined.{lined_follow}
 use Rattle.books.proofs.Stretches.Turns.{bounded_end}
 use Rattle.books.proofs.Travel.BetweenEvents.{bounded}
 use Rattle.books.proofs.Travel.Travels.{Travels, travels_start}
 use Rattle.books.proofs.Travel.WholeRun.{list_whole, count_whole, finishes_whole, postponed_whole, interrupted_all}
 use Rattle.books.specs.declared.Standing.{Standing}
-use Rattle.books.proofs.Tree.Winners.{tree_of, Enough}
+use Rattle.books.specs.declared.Turns.{Turns}
+use Rattle.books.proofs.Tree.Winners.{tree_same, Enough}
 use Rattle.clock.specs.Clock.{last_tick}
 use Rattle.clock.specs.declared.Moment.{Moment}
 use Rattle.finish.specs.Finish.{is_open, finish_list}
@@ -26,8 +26,8 @@ use Rattle.workfile.specs.Work.{Work, work}
 use Rattle.run.proofs.travel.travel.Goals as goal
 use Rattle.run.proofs.travel.travel.Goals.{After-from_start, After-to_moment-end}
 
-pub leaves_of-leaves-requires : goal.leaves_of-leaves-requires
-leaves_of-leaves-requires c = omega (arith, servers_read _ c.header_of-h.ensures, c.requires.accepted.fit.servers)
+pub leaves_of-requires : goal.leaves_of-requires
+leaves_of-requires c = omega (arith, servers_read _ c.header_of-h.ensures, c.requires.accepted.fit.servers)
 
 pub open_all-requires : goal.open_all-requires
 open_all-requires c = omega (arith, arrivals_read _ c.header_of-h.ensures, c.requires.file_in_bounds)
@@ -38,7 +38,7 @@ line_up-requires c =
       accepted = c.requires.accepted;
       unlined =
           record {
-            first_is = ap (replicate most_servers) (arrivals_read _ c.header_of-h.ensures);
+            job_is = ap (replicate most_servers) (arrivals_read _ c.header_of-h.ensures);
             places = length-replicate {A = ℕ} most_arrivals 0;
           };
     }
@@ -78,27 +78,26 @@ fit : (p : After-from_start) → Fit (its p) (length (opened p))
 fit p = fit_beside (length (opened p)) p.requires.accepted.fit (long p)
 
 -- its tree has leaves enough
-enough : (p : After-from_start) → Enough (its p).table.count p.leaves_of-leaves.result
+enough : (p : After-from_start) → Enough (its p).table.count p.leaves_of.result
 enough p =
-    subst (λ (count : ℕ). Enough count p.leaves_of-leaves.result) (servers_read _ p.header_of-h.ensures) p.leaves_of-leaves.ensures
+    subst (λ (count : ℕ). Enough count p.leaves_of.result) (servers_read _ p.header_of-h.ensures) p.leaves_of.ensures
+
+-- the turns as they begin
+abbrev turns : After-from_start → Turns
+turns p = turns_of (tree_same p.leaves_of.result last_tick) (replicate most_servers 0) (replicate most_servers 0)
 
 starts : (p : After-from_start)
     → Travels (lent_in (its p) (from p).moment.tick (from p).current p.args.list.now (opened p)) (standing_at (from p))
-    (book
-    (turn_book (tree_of p.leaves_of-leaves.result (replicate 128 last_tick)) (replicate most_servers 0) (replicate most_servers 0)
-    (segment_book p.args.list.now (from p).current))
-    (job_book p.line_up.new.first (replicate most_servers 0) (opened p)))
+    (book (turns p) (segment_book p.args.list.now (from p).current) (job_book p.line_up.new.lines (opened p)))
 starts p =
     let list = p.args.list.now in
+    let lines = p.line_up in
     subst⁻¹
     (λ (s : Standing).
     Travels (lent_in (its p) s.moment.tick s.current list (opened p)) (standing_at s)
-    (book
-    (turn_book (tree_of p.leaves_of-leaves.result (replicate 128 last_tick)) (replicate most_servers 0) (replicate most_servers 0)
-    (segment_book list s.current))
-    (job_book p.line_up.new.first (replicate most_servers 0) (opened p))))
+    (book (turns p) (segment_book list s.current) (job_book lines.new.lines (opened p))))
     p.from_start.ensures
-    (travels_start list (opened p) (fit p) (enough p) (open_again p) p.line_up.ensures.first_places p.line_up.ensures.firsts)
+    (travels_start list (opened p) (fit p) (enough p) (open_again p) lines.ensures.lined lines.ensures.left)
 
 -- no segment had ended when the list was lent
 none_seen : (p : After-from_start) → (lent_in (its p) (from p).moment.tick (from p).current p.args.list.now (opened p)).seen ≡ []
@@ -114,7 +113,6 @@ to_moment-end-requires c =
       long = long p;
       ahead = omega (arith, ap (λ (s : Standing). s.moment.tick) c.from_start.ensures);
       in_time = omega (arith, horizon_read _ c.header_of-h.ensures);
-      follows = lined_follow c.line_up.ensures;
       travels = starts p;
     }
 
@@ -122,9 +120,7 @@ to_moment-end-requires c =
 abbrev left : After-to_moment-end → Book
 left m =
     let l = m.to_moment-end.new in
-    book
-    (turn_book (tree_of m.leaves_of-leaves.result l.keys) l.postponed l.interrupted (segment_book l.list m.to_moment-end.result.current))
-    (job_book l.job l.left l.finishes)
+    book l.turns (segment_book l.list m.to_moment-end.result.current) (job_book l.lines l.finishes)
 
 came : (m : After-to_moment-end)
     → Travels (lent_in (work m.args.file.now) m.from_start.result.moment.tick m.from_start.result.current m.args.list.now m.open_all.new.finishes)

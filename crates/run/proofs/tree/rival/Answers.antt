@@ -4,7 +4,7 @@ use Rattle.run.proofs.RivalLaws.{would_starts, would_goes_on, would_ends}
 use Rattle.run.proofs.tree.rival.Goals as goal
 
 pub loop-at-init : goal.loop-at-init
-loop-at-init c = would_starts c.requires.winners c.requires.place c.sibling.result c.sibling.ensures
+loop-at-init c = would_starts c.requires c.leaf_of-leaf.ensures c.sibling.result c.sibling.ensures
 
 pub loop-at-preserved : goal.loop-at-preserved
 loop-at-preserved c =
@@ -14,4 +14,4 @@ loop-at-preserved c =
 
 pub returns : goal.returns
 returns c =
-    would_ends c.requires.winners c.requires.place c.sibling.result c.sibling.ensures c.loop-at.invariant c.loop-at-test.false
+    would_ends c.requires c.leaf_of-leaf.ensures c.sibling.result c.sibling.ensures c.loop-at.invariant c.loop-at-test.false

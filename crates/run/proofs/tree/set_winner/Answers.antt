@@ -4,20 +4,20 @@ use Rattle.run.proofs.tree.set_winner.Goals as goal
 
 pub climb-requires : goal.climb-requires
 unfolding doubled
-climb-requires c = climbs_doubled c.requires _ 6 c.if-leaves-eq64.true
+climb-requires c = climbs_doubled c.requires c.leaf_of-at.ensures _ 6 c.in-64.is
 
-pub returns-then-leaves-eq64 : goal.returns-then-leaves-eq64
-returns-then-leaves-eq64 c = record { value = c.climb.ensures.root_is; set = climbed_set c.requires _ c.climb.ensures }
+pub returns-in-64 : goal.returns-in-64
+returns-in-64 c = record { value = c.climb.ensures.root_is; set = climbed_set c.requires c.leaf_of-at.ensures _ c.climb.ensures }
 
-pub climb-requires-then-leaves-eq16 : goal.climb-requires-then-leaves-eq16
+pub climb-requires-in-16 : goal.climb-requires-in-16
 unfolding doubled
-climb-requires-then-leaves-eq16 c = climbs_doubled c.requires _ 4 c.if-leaves-eq16.true
+climb-requires-in-16 c = climbs_doubled c.requires c.leaf_of-at.ensures _ 4 c.in-16.is
 
-pub returns-then-leaves-eq16 : goal.returns-then-leaves-eq16
-returns-then-leaves-eq16 c = record { value = c.climb-then-leaves-eq16.ensures.root_is; set = climbed_set c.requires _ c.climb-then-leaves-eq16.ensures }
+pub returns-in-16 : goal.returns-in-16
+returns-in-16 c = record { value = c.climb-in-16.ensures.root_is; set = climbed_set c.requires c.leaf_of-at.ensures _ c.climb-in-16.ensures }
 
 pub climb_up-requires : goal.climb_up-requires
-climb_up-requires c = climbs c.requires _
+climb_up-requires c = climbs c.requires c.leaf_of-at.ensures _
 
-pub returns : goal.returns
-returns c = record { value = c.climb_up.ensures.root_is; set = climbed_set c.requires _ c.climb_up.ensures }
+pub returns-in_default : goal.returns-in_default
+returns-in_default c = record { value = c.climb_up.ensures.root_is; set = climbed_set c.requires c.leaf_of-at.ensures _ c.climb_up.ensures }
