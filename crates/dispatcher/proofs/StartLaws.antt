@@ -1,7 +1,7 @@
--- A dispatcher at its start is made server by server, and is within the ranges of the moves.
-use Prim.Native.Nat.{ℕ, suc, ◌≤◌, ◌<◌}
+-- A dispatcher at its start is within the ranges of the moves.
+use Prim.Native.Nat.{ℕ, ◌≤◌, ◌<◌}
 use borrow.Author.Tests.{lt-ltb, le-ltb}
-use lib.ListN.{get_or, replicate, set, get_or-eq_default}
+use lib.ListN.{get_or, get_or-eq_default}
 use mathlib.Core.Path.{◌≡◌, refl, ◌∙◌}
 use native.Mathlib.Decide.{dec_lt}
 use native.Mathlib.Nat.{le_trans}
@@ -11,10 +11,9 @@ use Rattle.booking.proofs.ShareLaws.{period_le_frame}
 use Rattle.booking.specs.Admission.{Table}
 use Rattle.booking.specs.Share.{booked}
 use Rattle.booking.specs.Sheet.{sheet_of, table_on}
-use Rattle.booking.specs.declared.Booking.{Booking}
 use Rattle.clock.specs.Clock.{moment}
 use Rattle.clock.specs.declared.Length.{Length}
-use Rattle.counting.proofs.PlacesLaws.{length_places, get_d_places, places_same, filled_none, filled_more}
+use Rattle.counting.proofs.PlacesLaws.{length_places, get_d_places, places_same}
 use Rattle.counting.specs.Places.{places}
 use Rattle.server.proofs.RangeLaws.{fresh_ranged}
 use Rattle.server.specs.Ranges.{Ranged}
@@ -23,18 +22,6 @@ use Rattle.sizes.specs.Sizes.{most_frame, most_servers}
 use Rattle.dispatcher.specs.Pick.{server_at}
 use Rattle.dispatcher.specs.Start.{start_at, at_start}
 use Rattle.dispatcher.specs.Within.{Within}
-
--- One server after the other: with the first k in place, the next one's.
-module _ (booking : ℕ → Booking) where
-  abbrev pub first_of : ℕ → Table
-  first_of k = record { count = k; booking = booking }
-
-  pub start_none : replicate most_servers vacant ≡ places most_servers (start_at (first_of 0))
-  start_none = filled_none most_servers (λ i. fresh (booking i)) vacant
-
-  pub start_more : (k : ℕ) → k < most_servers
-      → set (places most_servers (start_at (first_of k))) k (fresh (booking k)) ≡ places most_servers (start_at (first_of (suc k)))
-  start_more = filled_more most_servers (λ i. fresh (booking i)) vacant
 
 -- each place of it, and each of its servers, which is fresh
 start_at_is : (t : Table) (k : ℕ) → k < most_servers → get_or (places most_servers (start_at t)) k vacant ≡ start_at t k
@@ -82,4 +69,4 @@ pub start_sheet : (H : Length) (t : Table) → at_start H (table_on (sheet_of H 
 unfolding at_start
 start_sheet H t =
     rw (places_same most_servers (start_at (table_on (sheet_of H t))) (start_at t)
-      (λ k h. rw (get_d_places most_servers t.booking k (booked 0 0) h) refl)) refl
+    (λ k h. rw (get_d_places most_servers t.booking k (booked 0 0) h) refl)) refl
