@@ -1,10 +1,13 @@
 -- Laws of the list of a function's values.
 use Prim.Native.Nat.{ℕ, zero, suc, ◌+◌, ◌≤◌, ◌<◌, zero-le, suc-le-suc}
+use borrow.Author.Tests.{lt-ltb, le-ltb}
+use lib.Dec.{ltb}
 use lib.ListN.{length, get_or, replicate, set}
+use mathlib.Core.Bool.{cond}
 use mathlib.Core.List.{List, [], ◌∷◌}
 use mathlib.Core.Logic.{◌≢◌}
 use mathlib.Core.Path.{◌≡◌, refl, sym, ◌∙◌, ap, ap₂}
-use native.Mathlib.Decide.{ℕ_discrete}
+use native.Mathlib.Decide.{dec_lt, ℕ_discrete}
 use native.Mathlib.Nat.{le_of_suc-le-suc, not-suc-le-zero}
 use native.Mathlib.Omega.{arith}
 use denote.Param.Members.{Mut, Called}
@@ -51,6 +54,31 @@ module _ {A : Type 0} where
   unfolding places
   places_get_d [] d = refl
   places_get_d (a ∷ l) d = ap (◌∷◌ a) (places_get_d l d)
+
+  -- filled from the front: the first k values, and d behind them
+  abbrev pub filled : (ℕ → A) → A → ℕ → ℕ → A
+  filled f d k i = cond (ltb i k) (f i) d
+
+  pub filled_none : (n : ℕ) (f : ℕ → A) (d : A) → replicate n d ≡ places n (filled f d 0)
+  filled_none n f d = places_replicate n d ∙ places_same n (λ i. d) (filled f d 0) (λ i h. rw (le-ltb i 0 zero-le))
+
+  pub filled_more : (n : ℕ) (f : ℕ → A) (d : A) (k : ℕ) → k < n → set (places n (filled f d k)) k (f k) ≡ places n (filled f d (suc k))
+  filled_more n f d k h = rw (sym here) (set_places n (filled f d k) (filled f d (suc k)) k h (λ i q. elsewhere i q (dec_lt i k)))
+    where
+      here : filled f d (suc k) k ≡ f k
+      here = rw (lt-ltb k (suc k) (omega arith))
+
+      elsewhere : (i : ℕ) → i ≢ k → Dec (i < k) → filled f d k i ≡ filled f d (suc k) i
+      elsewhere i q (yes b) = rw (lt-ltb i k b, lt-ltb i (suc k) (omega arith))
+      elsewhere i q (no b) = rw (le-ltb i k (omega arith), le-ltb i (suc k) (omega arith))
+
+  -- with d behind the first k this is all
+  pub filled_whole : (n : ℕ) (f : ℕ → A) (d : A) (k : ℕ) → ((i : ℕ) → i < n → k ≤ i → f i ≡ d) → places n (filled f d k) ≡ places n f
+  filled_whole n f d k behind = places_same n (filled f d k) f (λ i h. go i h (dec_lt i k))
+    where
+      go : (i : ℕ) → i < n → Dec (i < k) → filled f d k i ≡ f i
+      go i h (yes b) = rw (lt-ltb i k b)
+      go i h (no b) = rw (le-ltb i k (omega arith)) (sym (behind i h (omega arith)))
 
 -- What a closure makes of each index in turn, where each call gives f's value there, in every state P of the closure that calls lead to.
 module _ {F A : Type 0} (g : Mut F (ℕ × Unit {0}) A) (P : F → Type 0) (l : List A) (n : ℕ) (f : ℕ → A)
