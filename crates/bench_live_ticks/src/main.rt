@@ -2,13 +2,13 @@
 // it. The word `by-value` or `lent` chooses the form; with no word it ticks in both, one after the other.
 #![tactic(auto)]
 
-mod form;
+mod by_value;
 mod input;
+mod lent;
 mod say;
 mod tally;
 mod work;
 
-use form::{ByValue, Lent};
 use std::env::Env;
 
 fn main(rt: HostRuntime) {
@@ -22,10 +22,10 @@ fn play(rt: &impl Print, file: &[u8], letter: u8) {
     let start = work::start(file);
     let count = work::horizon(file);
     if letter != b'l' {
-        say::all(rt, tally::ticks::<ByValue>(start, count));
+        say::all(rt, by_value::ticks(start, count));
     }
     if letter != b'b' {
-        say::all(rt, tally::ticks::<Lent>(start, count));
+        say::all(rt, lent::ticks(start, count));
     }
 }
 
