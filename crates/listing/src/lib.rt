@@ -27,6 +27,7 @@ pub fn arrival_of(file: &[u8], h: Header, k: usize) -> Arrival
 }
 
 // The booking sheet of the table: its first 64 bookings.
+#[tactic(auto, using(counting::proofs::PlacesLaws::filled_none, counting::proofs::PlacesLaws::filled_whole))]
 pub fn sheet_of(file: &[u8], h: Header) -> Sheet
     ensures { result ≡ sheet_of h.frame (work_under h file.now).table }
 {
