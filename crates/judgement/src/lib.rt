@@ -31,6 +31,7 @@ pub fn judge(file: &[u8], places: usize) -> Result<(), Refusal>
 }
 
 // The arrivals in order, each by 6, 7, 8, then 9.
+#[tactic(auto, using(crate::proofs::PassedLaws::passed_none, crate::proofs::PassedLaws::passed_faulty, crate::proofs::PassedLaws::passed_over, crate::proofs::PassedLaws::passed_whole))]
 fn judge_arrivals(file: &[u8], h: Header, places: usize) -> Result<(), Refusal>
     ensures { on_paper result ≡ list_judged (work_under h file.now) places }
 {

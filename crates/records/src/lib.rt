@@ -35,6 +35,7 @@ pub fn of_run(
 }
 
 // Those that the arrivals under a header tell of so many servers, job by job in file order.
+#[tactic(auto, using(crate::proofs::GrowthLaws::records_none, crate::proofs::GrowthLaws::records_roomy))]
 fn of_arrivals(
     file: &[u8],
     h: Header,
@@ -65,6 +66,7 @@ fn finish_in(finishes: &[u32], k: usize) -> u32
 }
 
 // A record with one job more, which came then and for which the list has `finish`: an open one has arrived, any other has finished too.
+#[tactic(auto, using(crate::proofs::GrowthLaws::finish_by_open, crate::proofs::GrowthLaws::finish_by_at), unfolding(crate::specs::Working::Job::with_job))]
 fn with_job(s: Summary, came: Moment, finish: u32) -> Summary
     requires { Roomy s finish }
     ensures { result ≡ with_job s came (finish_by came finish) }
@@ -92,6 +94,7 @@ fn is_open(came: Moment, finish: Moment) -> bool
 }
 
 // The response over one job more.
+#[tactic(auto, using(clock::proofs::OrderLaws::longer_is, summary::proofs::SummaryLaws::total_over, summary::proofs::SummaryLaws::with_response_first, summary::proofs::SummaryLaws::with_response_more))]
 fn with_response(before: Response, lasted: Length) -> Response
     requires { total_of before + lasted.ticks ≤ last_tick }
     ensures { result ≡ with_response before lasted.ticks }
@@ -111,6 +114,7 @@ fn with_response(before: Response, lasted: Length) -> Response
 }
 
 // The records, those of the first servers with the counts that were kept beside them.
+#[tactic(auto, using(crate::proofs::FilledLaws::filled_none))]
 fn fill(
     mut records: [Summary; sizes::MOST_SERVERS],
     servers: usize,

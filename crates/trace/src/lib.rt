@@ -16,6 +16,7 @@ pub struct Segment {
 }
 
 // Segment k in its four places of the list, where it has them all; where it has not, no place changes.
+#[tactic(auto, using(crate::proofs::WrittenLaws::put_laid, crate::proofs::WrittenLaws::put_short))]
 pub fn write(list: &mut [u64], k: usize, s: Segment)
     ensures { list.new ≡ put k s list.old }
 {

@@ -35,9 +35,6 @@ of_arrivals-requires c =
       count_le_open_job = few _ c.header_of-h.ensures (λ i. omega (arith, c.type_inv.file i));
     }
 
-pub fill-requires : goal.fill-requires
-fill-requires c = omega (arith, c.min-servers.ensures)
-
 pub returns : goal.returns
 returns c =
     let a = c.args in
