@@ -43,7 +43,7 @@ pub(crate) fn key_of(s: Server, i: usize) -> u64
     }
 }
 
-// What is left of a length when a part of it is gone.
+// What is left of a length when a part of it is gone. No operator of Length: that would be one of `clock`, of which each holds for all numbers.
 pub(crate) fn less(all: Length, part: Length) -> Length
     requires { part.ticks ≤ all.ticks }
     ensures { result ≡ ticks (all.ticks - part.ticks) }
