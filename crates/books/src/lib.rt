@@ -7,7 +7,7 @@ use dispatcher::Dispatcher;
 use server::Server;
 
 // The stretch that a run is in: since when, of which server under which deadline, and how many segments ended before it. Where
-// nobody runs the server is that of no place.
+// nobody runs the server is that of no place, and no Option: as such it goes to `summary::interrupted_by`, which takes two numbers.
 #[derive(Clone, Copy)]
 pub struct Current {
     pub start: Moment,
@@ -21,7 +21,7 @@ pub struct Current {
 // A winner tree over the keys of the servers, with as many leaves as the table needs: with n leaves the keys stand at places n to 2n - 1,
 // each place p from 1 to n - 1 holds the lesser of those at 2p and 2p + 1, and place 0 is unused. So place 1 holds the least key, and a
 // changed key changes only what stands above it. No ghost field says so: while a key is being changed it does not hold.
-#[derive(Clone, Copy)]
+#[derive(Drop)]
 pub struct WinnerTree {
     // A byte, since by that the compiler knows that a place is a small number: with a usize the climb takes longer.
     pub leaves: u8,
@@ -29,7 +29,7 @@ pub struct WinnerTree {
 }
 
 // What a run keeps of its turns: the winner tree, and how often each server was postponed and interrupted.
-#[derive(Clone, Copy)]
+#[derive(Drop)]
 pub struct Turns {
     pub tree: WinnerTree,
     pub postponed: [u64; sizes::MOST_SERVERS],
@@ -37,8 +37,8 @@ pub struct Turns {
 }
 
 // What a run keeps of its jobs: which of them each server serves, what is left of that one, and the job behind each. Where there is none
-// it is the count of all arrivals.
-#[derive(Clone, Copy)]
+// it is the count of all arrivals, and no Option: only a server that has a job is asked for it, so that nobody asks whether there is one.
+#[derive(Drop)]
 pub struct JobLines {
     pub job: [usize; sizes::MOST_SERVERS],
     pub left: [u64; sizes::MOST_SERVERS],

@@ -1,4 +1,5 @@
-// The arrivals of an accepted file, read where they lie.
+// The arrivals of an accepted file, read where they lie. No struct holds that the file was accepted: in a ghost field the fact would stand
+// truncated, and each proof that uses it would have to open it.
 ghost use Rattle.std.specs.Prelude.{◌≡◌, ◌<◌};
 ghost use Rattle.books.proofs.Accepted.{Accepted, next_stop};
 ghost use Rattle.clock.specs.Clock.{moment};
@@ -23,12 +24,12 @@ pub(crate) fn next_stop(file: &[u8], until: Moment, j: usize) -> Moment
     ensures { result ≡ moment (next_stop (work file.now) until.tick j) }
 {
     let h = workfile::header_of(file);
-    if j >= h.arrivals.count {
-        return until;
+    if j < h.arrivals.count {
+        let a = listing::arrival_of(file, h, j);
+        Moment {
+            tick: a.moment.tick.min(until.tick),
+        }
+    } else {
+        until
     }
-    let a = listing::arrival_of(file, h, j);
-    if until.tick < a.moment.tick {
-        return until;
-    }
-    a.moment
 }

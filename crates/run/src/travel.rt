@@ -9,7 +9,7 @@ ghost use Rattle.clock.specs.Clock.{moment};
 ghost use Rattle.moments.specs.Moments.{at_moment};
 ghost use Rattle.workfile.specs.Work.{work};
 
-use crate::{jobs, reading, spell, starting, stretches, taking, tree};
+use crate::{jobs, reading, serving, spell, starting, stretches, taking, tree};
 use books::{JobLines, Standing, Travelled, Turns, WinnerTree};
 use clock::{Length, Moment};
 
@@ -32,8 +32,7 @@ pub(crate) fn travel(file: &[u8], list: &mut [u64], finishes: &mut [u32]) -> Tra
     let mut turns = Turns {
         tree: WinnerTree {
             leaves: tree::leaves_of(h.servers.count),
-            // An idle server has the last number of all for its key, and no Option: the climb then compares numbers alone.
-            keys: [clock::LAST_TICK; 128],
+            keys: [serving::NO_KEY; 128],
         },
         postponed: [0; sizes::MOST_SERVERS],
         interrupted: [0; sizes::MOST_SERVERS],
@@ -102,24 +101,26 @@ fn to_moment(
             next = reading::next_stop(file, until, j);
             root = tree.keys[1];
         }
-        if root == clock::LAST_TICK {
-            c = stretches::idle(list, c, t);
-            t = next;
-            d.clock = t;
-        } else {
-            let i = (root % 64) as usize;
-            let rest = jobs::left_of(file, lines, i);
-            let room = clock::until(t, next);
-            let most = Length {
-                ticks: rest.ticks.min(room.ticks),
-            };
-            let g = spell::go(list, turns, c, t, i, d.servers[i], most);
-            c = g.current;
-            root = g.root;
-            d.servers[i] = g.server;
-            t = clock::later(t, g.gone);
-            d.clock = t;
-            jobs::go_on(finishes, lines, i, g.gone, t);
+        match serving::picked(root) {
+            None => {
+                c = stretches::idle(list, c, t);
+                t = next;
+                d.clock = t;
+            }
+            Some(i) => {
+                let rest = jobs::left_of(file, lines, i);
+                let room = clock::until(t, next);
+                let most = Length {
+                    ticks: rest.ticks.min(room.ticks),
+                };
+                let g = spell::go(list, turns, c, t, i, d.servers[i], most);
+                c = g.current;
+                root = g.root;
+                d.servers[i] = g.server;
+                t = clock::later(t, g.gone);
+                d.clock = t;
+                jobs::go_on(finishes, lines, i, g.gone, t);
+            }
         }
     }
     Standing {

@@ -101,7 +101,11 @@ pub(crate) fn leaves_of(count: usize) -> u8
 pub(crate) fn other_half(tree: &WinnerTree, i: usize) -> usize
     ensures { result < 128 }
 {
-    if i < usize::from(tree.leaves) / 2 { 3 } else { 2 }
+    if i < usize::from(tree.leaves) / 2 {
+        3
+    } else {
+        2
+    }
 }
 
 // The other place under the place above `at`.

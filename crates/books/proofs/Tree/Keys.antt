@@ -1,6 +1,7 @@
 -- A winner tree over the servers of a dispatcher: its root tells the pick.
 use Prim.Native.Nat.{ℕ, ◌+◌, ◌*◌, ◌%◌, ◌≤◌, ◌<◌}
 use mathlib.Core.Bool.{Bool, true, false, cond}
+use Rattle.std.specs.Prelude.{Option, None, Some}
 use mathlib.Core.Path.{◌≡◌, refl, sym, ◌∙◌, ap, subst, subst⁻¹}
 use native.Mathlib.Decide.{dec_lt, ℕ_discrete}
 use native.Mathlib.Omega.{arith}
@@ -26,6 +27,11 @@ key_passed_over s i e = rw e
 pub key_works : (s : Server) (i : ℕ) → passed_over s ≡ false → key_of s i ≡ s.deadline.tick * 64 + i
 unfolding key_of
 key_works s i e = rw e
+
+-- what the root tells of the pick: nobody's key, or that of the server which is the remainder by 64
+abbrev pub Picked : ℕ → Option ℕ → Type 0
+Picked root None = root ≡ last_tick
+Picked root (Some i) = (root ≡ last_tick → ⊥) × (i ≡ root % 64)
 
 -- A tree that holds some key of each of a dispatcher's servers.
 pub record Holds (key : Server → ℕ → ℕ) (tree : WinnerTree) (d : Dispatcher) : Type 0 where

@@ -1,4 +1,4 @@
--- `run::reading::next_stop` meets its promise: its tests are whether there is an arrival j, and whether it comes behind the end.
+-- `run::reading::next_stop` meets its promise: its test is whether there is an arrival j.
 use mathlib.Core.Path.{◌∙◌, sym, ap}
 use native.Mathlib.Omega.{arith}
 use Rattle.arrival.specs.declared.Arrival.{Arrival}
@@ -10,28 +10,16 @@ use Rattle.run.proofs.reading.next_stop.Goals as goal
 pub returns-then-j-h : goal.returns-then-j-h
 returns-then-j-h c =
     let a = c.args in
-    ap moment (sym (stop_behind _ a.until.tick a.j (omega (arith, c.if-j-h.true, arrivals_read _ c.header_of-h.ensures))))
-
-pub returns-then-until-a : goal.returns-then-until-a
-returns-then-until-a c =
-    let a = c.args in
     let read = c.header_of-h.ensures in
     ap moment
     (omega (
       arith,
-      c.if-until-a.true,
+      c.min.ensures,
       ap (λ (x : Arrival). x.moment.tick) (c.arrival_of-a.ensures ∙ arrival_read a.file.now read a.j),
-      stop_arrival (work a.file.now) a.until.tick a.j (omega (arith, c.if-j-h.false, arrivals_read _ read)),
+      stop_arrival (work a.file.now) a.until.tick a.j (omega (arith, c.if-j-h.true, arrivals_read _ read)),
     ))
 
-pub returns : goal.returns
-returns c =
+pub returns-else-j-h : goal.returns-else-j-h
+returns-else-j-h c =
     let a = c.args in
-    let read = c.header_of-h.ensures in
-    ap moment
-    (omega (
-      arith,
-      c.if-until-a.false,
-      ap (λ (x : Arrival). x.moment.tick) (c.arrival_of-a.ensures ∙ arrival_read a.file.now read a.j),
-      stop_arrival (work a.file.now) a.until.tick a.j (omega (arith, c.if-j-h.false, arrivals_read _ read)),
-    ))
+    ap moment (sym (stop_behind _ a.until.tick a.j (omega (arith, c.if-j-h.false, arrivals_read _ c.header_of-h.ensures))))

@@ -1,8 +1,8 @@
 -- `run::travel::to_moment` meets its promise: what `Travels` says holds between any two events, and no event goes on behind its end.
-use Prim.Native.Nat.{ℕ, ◌%◌, ◌<◌}
+use Prim.Native.Nat.{ℕ, ◌<◌}
 use lib.ListN.{length}
 use mathlib.Core.List.{List}
-use mathlib.Core.Path.{refl, sym, ◌∙◌, ap}
+use mathlib.Core.Path.{refl, sym, ◌∙◌, ap, subst⁻¹}
 use native.Mathlib.Nat.{le_antisymm}
 use native.Mathlib.Numerals.{add-one}
 use native.Mathlib.Omega.{arith}
@@ -20,7 +20,7 @@ use Rattle.dispatcher.specs.Pick.{Earliest}
 use Rattle.judgement.proofs.FitLaws.{Fit}
 use Rattle.workfile.specs.Work.{work}
 use Rattle.run.proofs.travel.to_moment.Goals as goal
-use Rattle.run.proofs.travel.to_moment.Goals.{In-loop-next, After-arrival_of-a, Else-root, After-later-t}
+use Rattle.run.proofs.travel.to_moment.Goals.{In-loop-next, After-arrival_of-a, In-Some, After-later-t}
 
 -- the work fits beside the finish list that was lent
 its_fit : {file : List ℕ} {until : ℕ} {r : Run} {h : Here} {b : Book} → MayTravel file until r h b
@@ -98,30 +98,33 @@ pub idle-c-requires : goal.idle-c-requires
 idle-c-requires c =
     bounded_end (bounded (its_fit c.requires) (travels_taking c.loop-t.invariant.travels c.loop-next.invariant)) (omega arith)
 
-pub loop-t-smaller-then-root : goal.loop-t-smaller-then-root
-loop-t-smaller-then-root c = omega (arith, c.loop-next-test.false, c.loop-t-test.true)
+pub loop-t-smaller-in-None : goal.loop-t-smaller-in-None
+loop-t-smaller-in-None c = omega (arith, c.loop-next-test.false, c.loop-t-test.true)
 
-pub loop-t-preserved-then-root : goal.loop-t-preserved-then-root
-loop-t-preserved-then-root c =
+pub loop-t-preserved-in-None : goal.loop-t-preserved-in-None
+loop-t-preserved-in-None c =
     let fit = its_fit c.requires in
     let g = c.loop-next.invariant in
-    idled_on fit (travels_taking c.loop-t.invariant.travels g) (sym g.root_is ∙ c.if-root.true)
+    idled_on fit (travels_taking c.loop-t.invariant.travels g) (sym g.root_is ∙ c.in-None.ensures)
     (stop_ahead fit g.next_is c.loop-next-test.false c.requires.in_time)
     c.idle-c.ensures
     g
 
 -- The server that is picked.
-pick : (e : Else-root) → let d = e.loop-next.d in Earliest d d.count (e.loop-next.root % 64)
+pick : (e : In-Some) → let d = e.loop-next.d in Earliest d d.count e.in-Some.i
 pick e =
-    root_pick (its_fit e.requires) (travels_taking e.loop-t.invariant.travels e.loop-next.invariant) e.loop-next.root
+    let d = e.loop-next.d in
+    let is = e.in-Some.ensures in
+    subst⁻¹ (Earliest d d.count) is.1
+    (root_pick (its_fit e.requires) (travels_taking e.loop-t.invariant.travels e.loop-next.invariant) e.loop-next.root
     e.loop-next.invariant.root_is
-    e.if-root.false
+    is.0)
 
-its_place : (e : Else-root) → e.loop-next.root % 64 < 64
+its_place : (e : In-Some) → e.in-Some.i < 64
 its_place e = place (its_fit e.requires) (travels_taking e.loop-t.invariant.travels e.loop-next.invariant) (pick e)
 
 -- up to the next stop no arrival comes
-ahead : (e : Else-root) → Ahead (work e.args.file.now) (here e.loop-t.t.tick e.loop-next.j e.loop-next.d) e.loop-next.next.tick
+ahead : (e : In-Some) → Ahead (work e.args.file.now) (here e.loop-t.t.tick e.loop-next.j e.loop-next.d) e.loop-next.next.tick
 ahead e = stop_ahead (its_fit e.requires) e.loop-next.invariant.next_is e.loop-next-test.false e.requires.in_time
 
 pub left_of-rest-requires : goal.left_of-rest-requires
@@ -130,28 +133,28 @@ left_of-rest-requires c =
       accepted = c.requires.accepted;
       serves =
           picked_serves (its_fit c.requires) (travels_taking c.loop-t.invariant.travels c.loop-next.invariant)
-          (pick (goal.at.left_of-rest-requires c).Else-root);
+          (pick (goal.at.left_of-rest-requires c).In-Some);
     }
 
-pub offset_bounds-d-i-else-root : goal.offset_bounds-d-i-else-root
-offset_bounds-d-i-else-root c = omega (arith, its_place (goal.at.offset_bounds-d-i-else-root c).Else-root)
+pub offset_bounds-d-i-in-Some : goal.offset_bounds-d-i-in-Some
+offset_bounds-d-i-in-Some c = omega (arith, its_place (goal.at.offset_bounds-d-i-in-Some c).In-Some)
 
-pub bounds-d-i-else-root : goal.bounds-d-i-else-root
-bounds-d-i-else-root c = its_place (goal.at.bounds-d-i-else-root c).Else-root
+pub bounds-d-i-in-Some : goal.bounds-d-i-in-Some
+bounds-d-i-in-Some c = its_place (goal.at.bounds-d-i-in-Some c).In-Some
 
 pub go-g-requires : goal.go-g-requires
 go-g-requires c =
-    let e = (goal.at.go-g-requires c).Else-root in
+    let e = (goal.at.go-g-requires c).In-Some in
     may_go (its_fit c.requires) (travels_taking c.loop-t.invariant.travels c.loop-next.invariant) (pick e) c.left_of-rest.ensures
     (ahead e)
     c.until-room.ensures
     c.min.ensures
 
-pub offset_bounds-d-i-else-root-2 : goal.offset_bounds-d-i-else-root-2
-offset_bounds-d-i-else-root-2 c = omega (arith, its_place (goal.at.offset_bounds-d-i-else-root-2 c).Else-root)
+pub offset_bounds-d-i-in-Some-2 : goal.offset_bounds-d-i-in-Some-2
+offset_bounds-d-i-in-Some-2 c = omega (arith, its_place (goal.at.offset_bounds-d-i-in-Some-2 c).In-Some)
 
-pub bounds-d-i-else-root-2 : goal.bounds-d-i-else-root-2
-bounds-d-i-else-root-2 c = its_place (goal.at.bounds-d-i-else-root-2 c).Else-root
+pub bounds-d-i-in-Some-2 : goal.bounds-d-i-in-Some-2
+bounds-d-i-in-Some-2 c = its_place (goal.at.bounds-d-i-in-Some-2 c).In-Some
 
 -- Once the spell has gone.
 abbrev segments_after : After-later-t → SegmentBook
@@ -160,7 +163,7 @@ segments_after l = segment_book l.go-g.new.list l.go-g.result.current
 over : (l : After-later-t)
     → SpellOver (lent_in (work l.args.file.now) l.args.from.moment.tick l.args.from.current l.args.list.now l.args.finishes.now)
     (here l.loop-t.t.tick l.loop-next.j l.loop-next.d)
-    (l.loop-next.root % 64)
+    l.in-Some.i
     l.args.until.tick
     l.loop-next.next.tick
     l.later-t.result
@@ -172,7 +175,9 @@ over l =
     let fit = its_fit l.requires in
     let g = l.loop-next.invariant in
     let v = travels_taking l.loop-t.invariant.travels g in
-    spell_over fit v (root_pick fit v l.loop-next.root g.root_is l.if-root.false) l.left_of-rest.ensures
+    let d = l.loop-next.d in
+    let is = l.in-Some.ensures in
+    spell_over fit v (subst⁻¹ (Earliest d d.count) is.1 (root_pick fit v l.loop-next.root g.root_is is.0)) l.left_of-rest.ensures
     (stop_ahead fit g.next_is l.loop-next-test.false l.requires.in_time)
     l.until-room.ensures
     l.min.ensures
