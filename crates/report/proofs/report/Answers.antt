@@ -7,7 +7,7 @@ use Rattle.report.proofs.RanLaws.{ran_told, report_accepted, report_refused, Lef
 use Rattle.run.specs.declared.Ran.{Ran}
 use Rattle.run.specs.Outcome.{outcome, run_says}
 use Rattle.sizes.specs.Sizes.{most_arrivals, trace_numbers}
-use Rattle.page.proofs.PageLaws.{added_as}
+use Rattle.page.proofs.PageLaws.{adds_as}
 use Rattle.report.proofs.report.Goals as goal
 
 -- what the run has left of lists that held nothing but 0
@@ -25,10 +25,10 @@ left file after ended r e =
 pub accepted-requires : goal.accepted-requires
 accepted-requires c = ran_told (left _ _ _ c.run-ran.result c.run-ran.ensures) c.in-Accepted.is
 
-pub returns-in-Accepted-clause-added : goal.returns-in-Accepted-clause-added
-returns-in-Accepted-clause-added c =
-    added_as _ (sym (report_accepted (left _ _ _ c.run-ran.result c.run-ran.ensures) c.in-Accepted.is)) c.accepted.ensures.added
+pub returns-in-Accepted : goal.returns-in-Accepted
+returns-in-Accepted c =
+    adds_as (sym (report_accepted (left _ _ _ c.run-ran.result c.run-ran.ensures) c.in-Accepted.is)) c.accepted.ensures
 
-pub returns-in-Refused-clause-added : goal.returns-in-Refused-clause-added
-returns-in-Refused-clause-added c =
-    added_as _ (sym (report_refused (left _ _ _ c.run-ran.result c.run-ran.ensures) _ c.in-Refused.is)) c.refused.ensures.added
+pub returns-in-Refused : goal.returns-in-Refused
+returns-in-Refused c =
+    adds_as (sym (report_refused (left _ _ _ c.run-ran.result c.run-ran.ensures) _ c.in-Refused.is)) c.refused.ensures
