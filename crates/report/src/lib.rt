@@ -108,6 +108,7 @@ fn server_lines(text: &mut Page<'_, u8>, records: [Summary; sizes::MOST_SERVERS]
     requires { servers ≤ most_servers }
     ensures { Added (each servers (λ i. server_line i (get_or records i blank))) text.old text.new }
 {
+    // By number, which the line has too: `records[..servers].iter().enumerate()` says no more.
     for i in 0..servers {
         lines::server(text, i, records[i]);
     }

@@ -1,11 +1,11 @@
-// The lines of the report, each added behind what the text has.
+// The lines of the report, each added behind what the text has. (A usize is a u64 by `as`, since there is no `From` from one to the other.)
 #![tactic(auto, using(page::proofs::PageLaws::added_both))]
 
-ghost use Rattle.std.specs.Prelude.{[], ◌++◌, ◌≡◌, flat_map};
+ghost use Rattle.std.specs.Prelude.{[], ◌++◌, codes, flat_map};
 ghost use Rattle.finish.specs.Finish.{finish_of};
 ghost use Rattle.refusal.specs.Refusals.{number_of, place_of};
 ghost use Rattle.report.specs.DayReport.{refused_line, admitted_line, segment_line, segments_line, job_with, total_field, longest_field, server_line};
-ghost use Rattle.text.specs.Line.{bytes, bytes_of, decimal, goes_on};
+ghost use Rattle.text.specs.Line.{bytes_of, decimal, goes_on};
 ghost use Rattle.page.specs.Page.{Added};
 
 use arrival::Arrival;
@@ -64,6 +64,7 @@ pub(crate) fn job(text: &mut Page<'_, u8>, k: usize, a: Arrival, finish: u32)
             (b" ", a.moment.tick),
         ],
     );
+    // By number, since that is how the finish list of `run::run` tells of an open job.
     if finish == sizes::OPEN_JOB {
         return text::add(text, b" open -\n");
     }
@@ -77,7 +78,6 @@ pub(crate) fn job(text: &mut Page<'_, u8>, k: usize, a: Arrival, finish: u32)
 pub(crate) fn server(text: &mut Page<'_, u8>, i: usize, s: Summary)
     ensures { Added (server_line i s) text.old text.new }
 {
-    let response = s.response;
     numbers(
         text,
         &[
@@ -86,7 +86,7 @@ pub(crate) fn server(text: &mut Page<'_, u8>, i: usize, s: Summary)
             (b" finished ", s.finished),
         ],
     );
-    responses(text, response);
+    responses(text, s.response);
     line(
         text,
         &[
@@ -98,7 +98,7 @@ pub(crate) fn server(text: &mut Page<'_, u8>, i: usize, s: Summary)
 
 // All responses of a server, as their total and the longest.
 fn responses(text: &mut Page<'_, u8>, response: Response)
-    ensures { Added ((bytes " total " ++ bytes_of (total_field response)) ++ ((bytes " longest " ++ bytes_of (longest_field response)) ++ [])) text.old text.new }
+    ensures { Added ((codes " total " ++ bytes_of (total_field response)) ++ ((codes " longest " ++ bytes_of (longest_field response)) ++ [])) text.old text.new }
 {
     match response {
         Response::Absent => text::add(text, b" total - longest -"),
