@@ -1,6 +1,6 @@
 -- Document 01, "Checked by hand": "Those marked * are proved as one list under one statement about the definitions".
 use Prim.Native.Char.{code}
-use Rattle.std.specs.Prelude.{ℕ, List, [], ◌∷◌, ◌++◌, ◌≡◌}
+use Rattle.std.specs.Prelude.{ℕ, List, [], ◌∷◌, ◌++◌, ◌≡◌, codes}
 use Prim.Native.String.{String}
 use Rattle.booking.specs.Admission.{shares}
 use Rattle.booking.specs.Share.{booked}
@@ -17,7 +17,6 @@ use Rattle.server.specs.declared.Server.{Server}
 use Rattle.summary.specs.Summary.{trace_of, finishes, summary_of}
 use Rattle.summary.specs.declared.Response.TheVariants.{Absent}
 use Rattle.summary.specs.declared.Summary.{Summary}
-use Rattle.text.specs.Line as line
 use Rattle.trace.specs.Written.{segment_of}
 use Rattle.trace.specs.declared.Segment.{Segment}
 use Rattle.workfile.specs.Work.{work}
@@ -60,7 +59,7 @@ file_q = 5 ∷ 4 ∷ 1 ∷ 24 ∷ 1 ∷ 32 ∷ 1 ∷ 5 ∷ 1 ∷ 0 ∷ 5 ∷ []
 -- the bytes of lines as they are printed
 abbrev pub printed : List String → List ℕ
 printed [] = []
-printed (l ∷ more) = line.bytes l ++ code "\n" ∷ printed more
+printed (l ∷ more) = codes l ++ code "\n" ∷ printed more
 
 -- what an example says of the definitions
 abbrev pub Holds : Example → Type 0

@@ -1,20 +1,24 @@
--- Adding to a page: nothing changes it, and to add one thing and then another is to add both.
+-- Adding to a list and its next place: nothing changes them, and to add one thing and then another is to add both.
 use Prim.Native.Nat.{ℕ, zero, suc, ◌+◌, ◌-◌, ◌≤◌, ◌<◌, min}
 use lib.ListN.{length, take, drop, get_or, set, length-append, take-append-drop, drop_of_length-le}
 use lib.Seq.{set_split, drop-cons, take-suc, take_all, take-nil, drop-nil}
 use mathlib.Core.List.{List, [], ◌∷◌, ◌++◌, append-nil}
-use mathlib.Core.Path.{◌≡◌, refl, sym, ◌∙◌, ap, ap₂}
+use mathlib.Core.Path.{◌≡◌, refl, sym, ◌∙◌, ap, ap₂, subst}
 use native.Mathlib.Nat.{le_antisymm, le_of_suc-le-suc, not-suc-le-zero}
 use native.Mathlib.Numerals.{add-one}
 use native.Mathlib.Omega.{arith}
 use Rattle.std.proofs.lemmas.Grind.{flat_map-append}
 use Rattle.std.specs.List.{flat_map}
-use Rattle.page.specs.Page.{Page, page, over, added, each}
+use Rattle.page.specs.Page.{over, added, Added, each}
+use Rattle.page.specs.declared.Page.{Page}
 
 module _ {A : Type 0} where
-  -- two pages that are one have one next place and one list
-  pub page_apart : {p q : Page A} → p ≡ q → (p.next ≡ q.next) × (p.list ≡ q.list)
-  page_apart e = (ap (λ (p : Page A). p.next) e, ap (λ (p : Page A). p.list) e)
+  pub both : {l m : List A} {i n : ℕ} → l ≡ m → i ≡ n → ◌≡◌ {A = List A × ℕ} (l, i) (m, n)
+  both = ap₂ (λ (l : List A) (n : ℕ). (l, n))
+
+  -- two that are one have one next place and one list
+  pub page_apart : {p q : List A × ℕ} → p ≡ q → (p.1 ≡ q.1) × (p.0 ≡ q.0)
+  page_apart e = (ap (λ (p : List A × ℕ). p.1) e, ap (λ (p : List A × ℕ). p.0) e)
 
   over_empty : (m : List A) → over m [] ≡ []
   unfolding over
@@ -76,72 +80,52 @@ module _ {A : Type 0} where
       ∙ ap length (take-append-drop at list)
 
   -- no list gets longer or shorter
-  pub added_length : (m : List A) (p : Page A) → length (added m p).list ≡ length p.list
+  pub added_length : (m : List A) (p : List A × ℕ) → length (added m p).0 ≡ length p.0
   unfolding added
-  added_length m p = laid_length m p.list p.next
+  added_length m p = laid_length m p.0 p.1
 
-  pub added_none : (p : Page A) → added [] p ≡ p
+  pub added_none : (p : List A × ℕ) → added [] p ≡ p
   unfolding added over
-  added_none p = ap₂ page (take-append-drop p.next p.list) (omega arith)
+  added_none p = both (take-append-drop p.1 p.0) (omega arith)
 
-  pub added_both : (a b : List A) (p : Page A) → added b (added a p) ≡ added (a ++ b) p
+  pub added_both : (a b : List A) (p : List A × ℕ) → added b (added a p) ≡ added (a ++ b) p
   unfolding added
   added_both a b p =
-      ap₂ page (laid_both a b p.list p.next)
-      (omega (arith, laid_length a p.list p.next, length-append a b))
+      both (laid_both a b p.0 p.1)
+      (omega (arith, laid_length a p.0 p.1, length-append a b))
 
-  pub added_then : (a b : List A) (p : Page A) {q r : Page A} → q ≡ added a p → r ≡ added b q → r ≡ added (a ++ b) p
+  pub added_then : (a b : List A) (p : List A × ℕ) {q r : List A × ℕ} → q ≡ added a p → r ≡ added b q → r ≡ added (a ++ b) p
   added_then a b p first second = second ∙ ap (added b) first ∙ added_both a b p
 
-  -- the same where the first comes in two parts
-  pub added_two_then : (a b c : List A) (p : Page A) {q r : Page A} → q ≡ added b (added a p) → r ≡ added c q → r ≡ added (a ++ (b ++ c)) p
-  added_two_then a b c p two third = added_then a (b ++ c) p refl (added_then b c (added a p) two third)
-
-  pub added_as : (p : Page A) {q : Page A} {a b : List A} → a ≡ b → q ≡ added a p → q ≡ added b p
+  pub added_as : (p : List A × ℕ) {q : List A × ℕ} {a b : List A} → a ≡ b → q ≡ added a p → q ≡ added b p
   added_as p same first = first ∙ ap (λ (m : List A). added m p) same
 
-  -- one more of a list
-  pub added_next : (m : List A) (k : ℕ) (d : A) (p q r : Page A) → k < length m → q ≡ added (take k m) p → r ≡ added (get_or m k d ∷ []) q
-      → r ≡ added (take (k + 1) m) p
-  added_next m k d p q r h first second =
-      added_as p (sym (take-suc m k d h) ∙ ap (λ (n : ℕ). take n m) (sym (add-one k)))
-      (added_then (take k m) (get_or m k d ∷ []) p first second)
-
-  -- and one more of a list, of each of which f is added
-  pub added_each : {X : Type 0} (f : X → List A) (l : List X) (k : ℕ) (d : X) (p q r : Page A) → k < length l
-      → q ≡ added (flat_map f (take k l)) p → r ≡ added (f (get_or l k d)) q → r ≡ added (flat_map f (take (k + 1) l)) p
-  added_each f l k d p q r h first second =
-      added_as p
-      (sym (ap (λ (n : ℕ). flat_map f (take n l)) (add-one k) ∙ ap (flat_map f) (take-suc l k d h) ∙ flat_map-append f (take k l) (get_or l k d ∷ [])
-      ∙ ap (λ (m : List A). flat_map f (take k l) ++ m) (append-nil (f (get_or l k d)))))
-      (added_then (flat_map f (take k l)) (f (get_or l k d)) p first second)
-
   -- one where there is room
-  pub added_room : (list : List A) (at : ℕ) (b : A) → at < length list → page (set list at b) (at + 1) ≡ added (b ∷ []) (page list at)
+  pub added_room : (list : List A) (at : ℕ) (b : A) → at < length list → (set list at b, at + 1) ≡ added (b ∷ []) (list, at)
   unfolding added over
   added_room list at b h =
-      ap₂ page (set_split list at b h ∙ ap (λ (l : List A). take at list ++ over (b ∷ []) l) (sym (drop-cons list at b h))) (omega arith)
+      both (set_split list at b h ∙ ap (λ (l : List A). take at list ++ over (b ∷ []) l) (sym (drop-cons list at b h))) (omega arith)
 
   -- and where there is none
-  pub added_full : (m list : List A) (at : ℕ) → length list ≤ at → page list at ≡ added m (page list at)
+  pub added_full : (m list : List A) (at : ℕ) → length list ≤ at → (list, at) ≡ added m (list, at)
   unfolding added
   added_full m list at h =
-      ap₂ page (sym (ap₂ (λ (x y : List A). x ++ over m y) (take_all at list h) (past list at h) ∙ ap (λ (l : List A). list ++ l) (over_empty m) ∙ append-nil list))
+      both (sym (ap₂ (λ (x y : List A). x ++ over m y) (take_all at list h) (past list at h) ∙ ap (λ (l : List A). list ++ l) (over_empty m) ∙ append-nil list))
       (omega arith)
     where
       past : (l : List A) (n : ℕ) → length l ≤ n → drop n l ≡ []
       past l n h = drop_of_length-le l {i = n} h
 
   -- where the next place lies within the list, it still does when more was added
-  pub added_within : (m : List A) (p : Page A) {q : Page A} → q ≡ added m p → p.next ≤ length p.list → q.next ≤ length q.list
+  pub added_within : (m : List A) (p : List A × ℕ) {q : List A × ℕ} → q ≡ added m p → p.1 ≤ length p.0 → q.1 ≤ length q.0
   unfolding added
   added_within m p e within =
       omega (
         arith,
         within,
-        ap (λ (r : Page A). r.next) e,
-        ap (λ (r : Page A). length r.list) e,
-        laid_length m p.list p.next,
+        ap (λ (r : List A × ℕ). r.1) e,
+        ap (λ (r : List A × ℕ). length r.0) e,
+        laid_length m p.0 p.1,
       )
 
   -- and where there is room for all of it, it is what the list then begins with
@@ -151,25 +135,54 @@ module _ {A : Type 0} where
   over_whole (b ∷ m) [] h = absurd (not-suc-le-zero h)
   over_whole (b ∷ m) (a ∷ list) h = ap (◌∷◌ b) (over_whole m list (le_of_suc-le-suc h))
 
-  pub added_whole : (m before after : List A) (next : ℕ) → length m ≤ length before → page after next ≡ added m (page before 0)
+  pub added_whole : (m before after : List A) (next : ℕ) → length m ≤ length before → (after, next) ≡ added m (before, 0)
       → take next after ≡ m
   unfolding added
   added_whole m before after next room e =
-      ap₂ take (ap (λ (p : Page A). p.next) e ∙ all) (ap (λ (p : Page A). p.list) e) ∙ over_whole m before room
+      ap₂ take (ap (λ (p : List A × ℕ). p.1) e ∙ all) (ap (λ (p : List A × ℕ). p.0) e) ∙ over_whole m before room
     where
       all : 0 + min (length m) (length before - 0) ≡ length m
       all = omega arith
 
--- of things that are added in turn: none, and one more
-pub each_none : (f : ℕ → List ℕ) (p : Page ℕ) → p ≡ added (each 0 f) p
-unfolding each
-each_none f p = sym (added_none p)
+-- The same of pages, whose list stays the same one.
+module _ {A : Type 0} where
+  pub adds_none : (p : Page A) → Added [] p p
+  adds_none p = record { same_list = refl; filled = sym (added_none (p.list.now, p.next)) }
 
-pub each_next : (f : ℕ → List ℕ) (k : ℕ) (p q r : Page ℕ) → q ≡ added (each k f) p → r ≡ added (f k) q → r ≡ added (each (k + 1) f) p
+  pub adds_then : {a b : List A} {p q r : Page A} → Added a p q → Added b q r → Added (a ++ b) p r
+  adds_then first second =
+      record { same_list = second.same_list ∙ first.same_list; filled = added_then _ _ _ first.filled second.filled }
+
+  pub adds_as : {p q : Page A} {a b : List A} → a ≡ b → Added a p q → Added b p q
+  adds_as same first = record { same_list = first.same_list; filled = added_as _ same first.filled }
+
+  -- a page is added to as what it equals
+  pub adds_from : {m : List A} {p q r : Page A} → p ≡ q → Added m p r → Added m q r
+  adds_from {m} {r = r} e = subst (λ (p : Page A). Added m p r) e
+
+  -- one more of a list, and of a list of each of which f is added
+  pub adds_next : (m : List A) (k : ℕ) (d : A) {p q r : Page A} → k < length m → Added (take k m) p q → Added (get_or m k d ∷ []) q r
+      → Added (take (k + 1) m) p r
+  adds_next m k d h first second =
+      adds_as (sym (take-suc m k d h) ∙ ap (λ (n : ℕ). take n m) (sym (add-one k))) (adds_then first second)
+
+  pub adds_each : {X : Type 0} (f : X → List A) (l : List X) (k : ℕ) (d : X) {p q r : Page A} → k < length l
+      → Added (flat_map f (take k l)) p q → Added (f (get_or l k d)) q r → Added (flat_map f (take (k + 1) l)) p r
+  adds_each f l k d h first second =
+      adds_as
+      (sym (ap (λ (n : ℕ). flat_map f (take n l)) (add-one k) ∙ ap (flat_map f) (take-suc l k d h) ∙ flat_map-append f (take k l) (get_or l k d ∷ [])
+      ∙ ap (λ (m : List A). flat_map f (take k l) ++ m) (append-nil (f (get_or l k d)))))
+      (adds_then first second)
+
+-- of things that are added in turn: none, and one more
+pub each_none : (f : ℕ → List ℕ) (p : Page ℕ) → Added (each 0 f) p p
 unfolding each
-each_next f k p q r first second =
-    added_as p (ap (λ (n : ℕ). each n f) (sym (add-one k))) (added_then (each k f) (f k) p first second)
+each_none f p = adds_none p
+
+pub each_next : (f : ℕ → List ℕ) (k : ℕ) {p q r : Page ℕ} → Added (each k f) p q → Added (f k) q r → Added (each (k + 1) f) p r
+unfolding each
+each_next f k first second = adds_as (ap (λ (n : ℕ). each n f) (sym (add-one k))) (adds_then first second)
 
 -- all of them, where as many as there are have been added
-pub each_all : (f : ℕ → List ℕ) (k n : ℕ) (p q : Page ℕ) → k ≤ n → n ≤ k → q ≡ added (each k f) p → q ≡ added (each n f) p
-each_all f k n p q a b first = added_as p (ap (λ (m : ℕ). each m f) (le_antisymm a b)) first
+pub each_all : (f : ℕ → List ℕ) (k n : ℕ) {p q : Page ℕ} → k ≤ n → n ≤ k → Added (each k f) p q → Added (each n f) p q
+each_all f k n a b = adds_as (ap (λ (m : ℕ). each m f) (le_antisymm a b))

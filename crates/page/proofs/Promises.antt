@@ -7,14 +7,12 @@ use Rattle.promise.specs.AsksNothing.{AsksNothing}
 use Rattle.promise.specs.OneOutcome.{OneOutcomeLent}
 use Rattle.promise.proofs.OneOutcomeLaws.{both_are}
 use Rattle.std.specs.Borrow.{GName}
-use Rattle.page.specs.Page.{Page, page}
 use Rattle.page.proofs.Page.add.Reads as add
 
 -- whatever the items are; what goes before the promise is what the kit has of their type
 pub add_one : (T : RattleType) (laws : _) (copy : _) (clone : _) (by : _)
-    → OneOutcomeLent {X = GName × Page T.Denot} (add.Post T laws copy clone by) (λ l e. (e.0.now.list.ghost_name, page e.0.now.list.now e.0.now.next))
-add_one T laws copy clone by l a x y at_x at_y p q =
-    (refl, ap₂ (λ n r. (n, r)) (both_are p.0 q.0) (both_are p.1 q.1))
+    → OneOutcomeLent {X = GName × (List T.Denot × ℕ)} (add.Post T laws copy clone by) (λ l e. (e.0.now.list.ghost_name, (e.0.now.list.now, e.0.now.next)))
+add_one T laws copy clone by l a x y at_x at_y p q = (refl, ap₂ (λ n r. (n, r)) (both_are p.same_list q.same_list) (both_are p.filled q.filled))
 
 -- of items that hold no reference, as bytes and numbers; of others the kit asks that they live as long as the list is lent
 pub add_asks : (T : RattleType) (laws : _) (copy : _) (clone : _) (by : _) → T.lives ≡ [] → AsksNothing (add.Pre T laws copy clone by)

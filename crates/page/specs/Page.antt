@@ -1,12 +1,6 @@
 -- A lent list that is filled from its start on: what it holds, and the place of the next.
-use Rattle.std.specs.Prelude.{ℕ, zero, suc, ◌+◌, ◌-◌, min, length, take, drop, List, [], ◌∷◌, ◌++◌}
-
-pub record Page (A : Type 0) : Type 0 where
-  pub list : List A
-  pub next : ℕ
-
-abbrev pub page : {A : Type 0} → List A → ℕ → Page A
-page list next = record { list = list; next = next }
+use Rattle.std.specs.Prelude.{ℕ, zero, suc, ◌+◌, ◌-◌, min, length, take, drop, List, [], ◌∷◌, ◌++◌, ◌≡◌}
+use Rattle.page.specs.declared.Page.{Page}
 
 -- things laid over the start of a list, as many as fit; places that they do not reach stay
 unfoldable pub over : {A : Type 0} → List A → List A → List A
@@ -14,11 +8,14 @@ over [] list = list
 over (b ∷ more) [] = []
 over (b ∷ more) (a ∷ list) = b ∷ over more list
 
--- a page with more added, as much as fits
-unfoldable pub added : {A : Type 0} → List A → Page A → Page A
-added more p =
-    page (take p.next p.list ++ over more (drop p.next p.list))
-    (p.next + min (length more) (length p.list - p.next))
+-- a list and its next place with more added, as much as fits
+unfoldable pub added : {A : Type 0} → List A → List A × ℕ → List A × ℕ
+added more (list, next) = (take next list ++ over more (drop next list), next + min (length more) (length list - next))
+
+-- a page with more added: its list is the same one
+pub record Added {A : Type 0} (more : List A) (before after : Page A) : Type 0 where
+  pub same_list : after.list.ghost_name ≡ before.list.ghost_name
+  pub filled : (after.list.now, after.next) ≡ added more (before.list.now, before.next)
 
 -- f 0, f 1, .., f (n − 1), one behind the other
 unfoldable pub each : ℕ → (ℕ → List ℕ) → List ℕ

@@ -2,8 +2,8 @@
 // place is touched but those that are filled. Text is added by `text`.
 #![tactic(auto)]
 
-ghost use Rattle.std.specs.Prelude.{[], ◌∷◌, ◌≡◌};
-ghost use Rattle.page.specs.Page.{added, page};
+ghost use Rattle.std.specs.Prelude.{[], ◌∷◌};
+ghost use Rattle.page.specs.Page.{Added};
 
 #[derive(Drop)]
 pub struct Page<'a, T> {
@@ -15,8 +15,7 @@ pub struct Page<'a, T> {
 impl<T: Copy> Page<'_, T> {
     // Adds one item, where there is room.
     pub fn add(&mut self, item: T)
-        ensures same_list { self.new.list.ghost_name ≡ self.old.list.ghost_name }
-        ensures added { page self.new.list.now self.new.next ≡ added (item ∷ []) (page self.old.list.now self.old.next) }
+        ensures { Added (item ∷ []) self.old self.new }
     {
         if self.next < self.list.len() {
             self.list[self.next] = item;

@@ -19,7 +19,7 @@ use Rattle.summary.proofs.BoundLaws.{summary_bounded}
 use Rattle.summary.specs.Summary.{trace_of, finishes, summary_of}
 use Rattle.page.proofs.EachLaws.{each_length}
 use Rattle.page.proofs.PageLaws.{added_whole}
-use Rattle.page.specs.Page.{page, added, each}
+use Rattle.page.specs.Page.{added, each}
 use Rattle.trace.proofs.SegmentLaws.{every_take, begun_few, begun_every}
 use Rattle.trace.specs.Segments.{EverySegment}
 use Rattle.trace.specs.Trace.{segments_of}
@@ -114,5 +114,5 @@ report_fits file = go (judged file most_arrivals) refl (judged_listed file most_
 
 -- so a text of that many bytes gets the whole report, and what is before the answered place is the report and nothing else
 pub report_whole : (file before after : List ℕ) (end : ℕ) → most_bytes ≤ length before
-    → page after end ≡ added (day_report file) (page before 0) → take end after ≡ day_report file
+    → (after, end) ≡ added (day_report file) (before, 0) → take end after ≡ day_report file
 report_whole file before after end room e = added_whole (day_report file) before after end (le_trans (report_fits file) room) e

@@ -10,8 +10,9 @@ use Rattle.finish.specs.Finish.{finish_list}
 use Rattle.sizes.specs.Sizes.{most_arrivals, most_shown}
 use Rattle.summary.specs.Summary.{trace_of, blank, summary_of}
 use Rattle.summary.specs.declared.Summary.{Summary}
-use Rattle.page.proofs.PageLaws.{added_as, added_then}
-use Rattle.page.specs.Page.{Page, added, each}
+use Rattle.page.proofs.PageLaws.{adds_as, adds_then}
+use Rattle.page.specs.Page.{Added, each}
+use Rattle.page.specs.declared.Page.{Page}
 use Rattle.trace.proofs.WrittenLaws.{written_length}
 use Rattle.trace.specs.Written.{fitting, segment_in}
 use Rattle.trace.specs.declared.Segment.{Segment}
@@ -69,17 +70,16 @@ module _ {file list ends : List ℕ} {segments : ℕ} {records : List Summary} (
       ∙ servers_told w told.accepted.fit.servers
 
   -- the parts one behind the other
-  pub report_told : (shown : ℕ) (p q₁ q₂ q₃ q₄ q₅ : Page ℕ) → shown ≡ fitting segments list
-      → q₁ ≡ added (admitted_line (shares w.frame w.table) w.frame.ticks) p
-      → q₂ ≡ added (each shown (λ k. segment_line (segment_in list k))) q₁
-      → q₃ ≡ added (segments_line segments shown) q₂
-      → q₄ ≡ added (each w.arrivals (job_in w ends)) q₃
-      → q₅ ≡ added (each w.table.count (λ i. server_line i (get_or records i blank))) q₄
-      → q₅ ≡ added (accepted_report w (trace_of w)) p
-  report_told shown p q₁ q₂ q₃ q₄ q₅ e one two three four five =
-      added_then _ _ p
-      (added_then _ _ p
-      (added_then _ _ p (added_then _ _ p one (added_as q₁ (segments_shown shown e) two))
-      (added_as q₂ (ap₂ segments_line told.segments_is (shown_is shown e)) three))
-      (added_as q₃ jobs_shown four))
-      (added_as q₄ servers_shown five)
+  pub report_told : (shown : ℕ) {p q₁ q₂ q₃ q₄ q₅ : Page ℕ} → shown ≡ fitting segments list
+      → Added (admitted_line (shares w.frame w.table) w.frame.ticks) p q₁
+      → Added (each shown (λ k. segment_line (segment_in list k))) q₁ q₂
+      → Added (segments_line segments shown) q₂ q₃
+      → Added (each w.arrivals (job_in w ends)) q₃ q₄
+      → Added (each w.table.count (λ i. server_line i (get_or records i blank))) q₄ q₅
+      → Added (accepted_report w (trace_of w)) p q₅
+  report_told shown e one two three four five =
+      adds_then
+      (adds_then
+      (adds_then (adds_then one (adds_as (segments_shown shown e) two)) (adds_as (ap₂ segments_line told.segments_is (shown_is shown e)) three))
+      (adds_as jobs_shown four))
+      (adds_as servers_shown five)

@@ -10,7 +10,7 @@ ghost use Rattle.report.specs.DayReport.{accepted_report, day_report, segment_li
 ghost use Rattle.report.specs.Working.AfterRun.{AfterRun, job_in};
 ghost use Rattle.sizes.specs.Sizes.{most_arrivals, most_servers, trace_numbers};
 ghost use Rattle.summary.specs.Summary.{blank, trace_of};
-ghost use Rattle.page.specs.Page.{added, page, each};
+ghost use Rattle.page.specs.Page.{added, Added, each};
 ghost use Rattle.trace.specs.Written.{segment_in};
 ghost use Rattle.workfile.specs.Work.{work};
 
@@ -23,7 +23,7 @@ pub const MOST_BYTES: usize = 262144;
 
 // The day report of a file, from the start of the text on, as much of it as fits. Answers how many bytes that is.
 pub fn day_report(file: &[u8], text: &mut [u8]) -> usize
-    ensures { page text.new result ≡ added (day_report file.now) (page text.old 0) }
+    ensures { (text.new, result) ≡ added (day_report file.now) (text.old, 0) }
 {
     let mut page = Page {
         list: text,
@@ -35,8 +35,7 @@ pub fn day_report(file: &[u8], text: &mut [u8]) -> usize
 
 // The report of a file, added to a page.
 fn report(text: &mut Page<'_, u8>, file: &[u8])
-    ensures same_list { text.new.list.ghost_name ≡ text.old.list.ghost_name }
-    ensures added { page text.new.list.now text.new.next ≡ added (day_report file.now) (page text.old.list.now text.old.next) }
+    ensures { Added (day_report file.now) text.old text.new }
 {
     let mut list = [0; sizes::TRACE_NUMBERS];
     let mut finishes = [0; sizes::MOST_ARRIVALS];
@@ -59,8 +58,7 @@ fn accepted(
     records: [Summary; sizes::MOST_SERVERS],
 )
     requires { AfterRun file.now list.now finishes.now segments records }
-    ensures same_list { text.new.list.ghost_name ≡ text.old.list.ghost_name }
-    ensures added { page text.new.list.now text.new.next ≡ added (accepted_report (work file.now) (trace_of (work file.now))) (page text.old.list.now text.old.next) }
+    ensures { Added (accepted_report (work file.now) (trace_of (work file.now))) text.old text.new }
 {
     let h = workfile::header_of(file);
     let shown = segments.min(list.len() / 4);
@@ -85,8 +83,7 @@ fn shares(file: &[u8]) -> Length
 
 // The lines of the first segments of a trace list.
 fn segment_lines(text: &mut Page<'_, u8>, list: &[u64], shown: usize)
-    ensures same_list { text.new.list.ghost_name ≡ text.old.list.ghost_name }
-    ensures added { page text.new.list.now text.new.next ≡ added (each shown (λ k. segment_line (segment_in list.now k))) (page text.old.list.now text.old.next) }
+    ensures { Added (each shown (λ k. segment_line (segment_in list.now k))) text.old text.new }
 {
     for k in 0..shown {
         lines::segment(text, trace::segment_at(list, k));
@@ -97,8 +94,7 @@ fn segment_lines(text: &mut Page<'_, u8>, list: &[u64], shown: usize)
 fn job_lines(text: &mut Page<'_, u8>, file: &[u8], finishes: &[u32])
     requires accepted { Accepted file.now }
     requires finishes_len { length finishes.now ≡ most_arrivals }
-    ensures same_list { text.new.list.ghost_name ≡ text.old.list.ghost_name }
-    ensures added { page text.new.list.now text.new.next ≡ added (each (work file.now).arrivals (job_in (work file.now) finishes.now)) (page text.old.list.now text.old.next) }
+    ensures { Added (each (work file.now).arrivals (job_in (work file.now) finishes.now)) text.old text.new }
 {
     let h = workfile::header_of(file);
     for (k, &finish) in finishes[..h.arrivals.count].iter().enumerate() {
@@ -109,9 +105,9 @@ fn job_lines(text: &mut Page<'_, u8>, file: &[u8], finishes: &[u32])
 // The lines of the first servers.
 fn server_lines(text: &mut Page<'_, u8>, records: [Summary; sizes::MOST_SERVERS], servers: usize)
     requires { servers ≤ most_servers }
-    ensures same_list { text.new.list.ghost_name ≡ text.old.list.ghost_name }
-    ensures added { page text.new.list.now text.new.next ≡ added (each servers (λ i. server_line i (get_or records i blank))) (page text.old.list.now text.old.next) }
+    ensures { Added (each servers (λ i. server_line i (get_or records i blank))) text.old text.new }
 {
+    // By number, which the line has too: `records[..servers].iter().enumerate()` says no more.
     for i in 0..servers {
         lines::server(text, i, records[i]);
     }

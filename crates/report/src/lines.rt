@@ -1,12 +1,12 @@
-// The lines of the report, each added behind what the text has.
+// The lines of the report, each added behind what the text has. (A usize is a u64 by `as`, since there is no `From` from one to the other.)
 #![tactic(auto, using(page::proofs::PageLaws::added_both))]
 
-ghost use Rattle.std.specs.Prelude.{[], ◌++◌, ◌≡◌, flat_map};
+ghost use Rattle.std.specs.Prelude.{[], ◌++◌, codes, flat_map};
 ghost use Rattle.finish.specs.Finish.{finish_of};
 ghost use Rattle.refusal.specs.Refusals.{number_of, place_of};
 ghost use Rattle.report.specs.DayReport.{refused_line, admitted_line, segment_line, segments_line, job_with, total_field, longest_field, server_line};
-ghost use Rattle.text.specs.Line.{bytes, bytes_of, decimal, goes_on};
-ghost use Rattle.page.specs.Page.{added, page};
+ghost use Rattle.text.specs.Line.{bytes_of, decimal, goes_on};
+ghost use Rattle.page.specs.Page.{Added};
 
 use arrival::Arrival;
 use clock::{Length, Moment};
@@ -16,8 +16,7 @@ use summary::{Response, Summary};
 use trace::Segment;
 
 pub(crate) fn refused(text: &mut Page<'_, u8>, why: Refusal)
-    ensures same_list { text.new.list.ghost_name ≡ text.old.list.ghost_name }
-    ensures added { page text.new.list.now text.new.next ≡ added (refused_line (number_of why) (place_of why)) (page text.old.list.now text.old.next) }
+    ensures { Added (refused_line (number_of why) (place_of why)) text.old text.new }
 {
     let number = refusal::number(why);
     let place = refusal::place(why) as u64;
@@ -25,15 +24,13 @@ pub(crate) fn refused(text: &mut Page<'_, u8>, why: Refusal)
 }
 
 pub(crate) fn admitted(text: &mut Page<'_, u8>, sum: Length, frame: Length)
-    ensures same_list { text.new.list.ghost_name ≡ text.old.list.ghost_name }
-    ensures added { page text.new.list.now text.new.next ≡ added (admitted_line sum.ticks frame.ticks) (page text.old.list.now text.old.next) }
+    ensures { Added (admitted_line sum.ticks frame.ticks) text.old text.new }
 {
     line(text, &[(b"admitted ", sum.ticks), (b" of ", frame.ticks)]);
 }
 
 pub(crate) fn segment(text: &mut Page<'_, u8>, s: Segment)
-    ensures same_list { text.new.list.ghost_name ≡ text.old.list.ghost_name }
-    ensures added { page text.new.list.now text.new.next ≡ added (segment_line s) (page text.old.list.now text.old.next) }
+    ensures { Added (segment_line s) text.old text.new }
 {
     line(
         text,
@@ -47,8 +44,7 @@ pub(crate) fn segment(text: &mut Page<'_, u8>, s: Segment)
 }
 
 pub(crate) fn segments(text: &mut Page<'_, u8>, count: usize, shown: usize)
-    ensures same_list { text.new.list.ghost_name ≡ text.old.list.ghost_name }
-    ensures added { page text.new.list.now text.new.next ≡ added (segments_line count shown) (page text.old.list.now text.old.next) }
+    ensures { Added (segments_line count shown) text.old text.new }
 {
     line(
         text,
@@ -58,8 +54,7 @@ pub(crate) fn segments(text: &mut Page<'_, u8>, count: usize, shown: usize)
 
 // The line of arrival k, whose place of the finish list holds this number.
 pub(crate) fn job(text: &mut Page<'_, u8>, k: usize, a: Arrival, finish: u32)
-    ensures same_list { text.new.list.ghost_name ≡ text.old.list.ghost_name }
-    ensures added { page text.new.list.now text.new.next ≡ added (job_with a k (finish_of finish)) (page text.old.list.now text.old.next) }
+    ensures { Added (job_with a k (finish_of finish)) text.old text.new }
 {
     numbers(
         text,
@@ -69,6 +64,7 @@ pub(crate) fn job(text: &mut Page<'_, u8>, k: usize, a: Arrival, finish: u32)
             (b" ", a.moment.tick),
         ],
     );
+    // By number, since that is how the finish list of `run::run` tells of an open job.
     if finish == sizes::OPEN_JOB {
         return text::add(text, b" open -\n");
     }
@@ -80,10 +76,8 @@ pub(crate) fn job(text: &mut Page<'_, u8>, k: usize, a: Arrival, finish: u32)
 }
 
 pub(crate) fn server(text: &mut Page<'_, u8>, i: usize, s: Summary)
-    ensures same_list { text.new.list.ghost_name ≡ text.old.list.ghost_name }
-    ensures added { page text.new.list.now text.new.next ≡ added (server_line i s) (page text.old.list.now text.old.next) }
+    ensures { Added (server_line i s) text.old text.new }
 {
-    let response = s.response;
     numbers(
         text,
         &[
@@ -92,7 +86,7 @@ pub(crate) fn server(text: &mut Page<'_, u8>, i: usize, s: Summary)
             (b" finished ", s.finished),
         ],
     );
-    responses(text, response);
+    responses(text, s.response);
     line(
         text,
         &[
@@ -104,8 +98,7 @@ pub(crate) fn server(text: &mut Page<'_, u8>, i: usize, s: Summary)
 
 // All responses of a server, as their total and the longest.
 fn responses(text: &mut Page<'_, u8>, response: Response)
-    ensures same_list { text.new.list.ghost_name ≡ text.old.list.ghost_name }
-    ensures added { page text.new.list.now text.new.next ≡ added ((bytes " total " ++ bytes_of (total_field response)) ++ ((bytes " longest " ++ bytes_of (longest_field response)) ++ [])) (page text.old.list.now text.old.next) }
+    ensures { Added ((codes " total " ++ bytes_of (total_field response)) ++ ((codes " longest " ++ bytes_of (longest_field response)) ++ [])) text.old text.new }
 {
     match response {
         Response::Absent => text::add(text, b" total - longest -"),
@@ -120,8 +113,7 @@ fn responses(text: &mut Page<'_, u8>, response: Response)
 
 // Numbers, each behind its words.
 fn numbers(text: &mut Page<'_, u8>, all: &[(&[u8], u64)])
-    ensures same_list { text.new.list.ghost_name ≡ text.old.list.ghost_name }
-    ensures added { page text.new.list.now text.new.next ≡ added (flat_map (λ n. n.0.now ++ decimal n.1) all.now) (page text.old.list.now text.old.next) }
+    ensures { Added (flat_map (λ n. n.0.now ++ decimal n.1) all.now) text.old text.new }
 {
     for &(words, n) in all {
         text::add_numbered(text, words, n);
@@ -130,8 +122,7 @@ fn numbers(text: &mut Page<'_, u8>, all: &[(&[u8], u64)])
 
 // The last numbers of a line, each behind its words, and the line feed.
 fn line(text: &mut Page<'_, u8>, all: &[(&[u8], u64)])
-    ensures same_list { text.new.list.ghost_name ≡ text.old.list.ghost_name }
-    ensures added { page text.new.list.now text.new.next ≡ added (flat_map (λ n. n.0.now ++ decimal n.1) all.now ++ goes_on []) (page text.old.list.now text.old.next) }
+    ensures { Added (flat_map (λ n. n.0.now ++ decimal n.1) all.now ++ goes_on []) text.old text.new }
 {
     numbers(text, all);
     text.add(b'\n');

@@ -6,7 +6,8 @@ use mathlib.Core.List.{List, [], ◌∷◌}
 use mathlib.Core.Path.{◌≡◌, refl, ◌∙◌, ap}
 use native.Mathlib.Decide.{dec_lt}
 use native.Mathlib.Omega.{arith}
-use Rattle.text.specs.Line.{bytes, digit, decimal, Field, bytes_of, goes_on, line}
+use Rattle.std.specs.Prelude.{codes}
+use Rattle.text.specs.Line.{digit, decimal, Field, bytes_of, goes_on, line}
 use Rattle.text.proofs.LineLaws.{decimal_last, decimal_more}
 
 -- a number below 10 ^ (k + 1) has at most k + 1 digits
@@ -31,6 +32,6 @@ goes_on_length (f ∷ more) =
     ap suc (length-append (bytes_of f) (goes_on more) ∙ ap (λ (n : ℕ). length (bytes_of f) + n) (goes_on_length more))
 
 -- a line is as long as its first word and the rest
-pub line_length : (first : String) (rest : List Field) → length (line first rest) ≡ length (bytes first) + widths rest
+pub line_length : (first : String) (rest : List Field) → length (line first rest) ≡ length (codes first) + widths rest
 line_length first rest =
-    length-append (bytes first) (goes_on rest) ∙ ap (λ (n : ℕ). length (bytes first) + n) (goes_on_length rest)
+    length-append (codes first) (goes_on rest) ∙ ap (λ (n : ℕ). length (codes first) + n) (goes_on_length rest)

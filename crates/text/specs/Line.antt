@@ -1,13 +1,8 @@
 -- Lines of text, as bytes: words and numbers with one space between two of them, and a line feed at the end of each line, as document 01
 -- prints File P's report.
 use Prim.Native.Char.{code}
-use Rattle.std.specs.Prelude.{ℕ, zero, suc, ◌+◌, ◌/◌, ◌%◌, ltb, cond, List, [], ◌∷◌, ◌++◌}
-use Prim.Native.String.{String, [] as end, ◌∷◌ as ◌then◌}
-
--- the bytes of a quoted text, which is ASCII wherever it is used
-abbrev pub bytes : String → List ℕ
-bytes end = []
-bytes (c then more) = code c ∷ bytes more
+use Rattle.std.specs.Prelude.{ℕ, zero, suc, ◌+◌, ◌/◌, ◌%◌, ltb, cond, List, [], ◌∷◌, ◌++◌, codes}
+use Prim.Native.String.{String}
 
 -- the byte of a digit
 abbrev pub digit : ℕ → ℕ
@@ -22,13 +17,13 @@ digits_up_to (suc most) n = cond (ltb n 10) (digit n ∷ []) (digits_up_to most 
 unfoldable pub decimal : ℕ → List ℕ
 decimal n = digits_up_to (suc n) n
 
--- what stands in a line
+-- what stands in a line; a word is ASCII
 pub data Field : Type 0 where
   word : String → Field
   number : ℕ → Field
 
 abbrev pub bytes_of : Field → List ℕ
-bytes_of (word w) = bytes w
+bytes_of (word w) = codes w
 bytes_of (number n) = decimal n
 
 -- the rest of a line: a space before each field, and a line feed at the end
@@ -38,4 +33,4 @@ goes_on (f ∷ more) = code " " ∷ (bytes_of f ++ goes_on more)
 
 -- a line begins with a word
 abbrev pub line : String → List Field → List ℕ
-line first rest = bytes first ++ goes_on rest
+line first rest = codes first ++ goes_on rest

@@ -4,14 +4,13 @@
 
 ghost use Rattle.std.specs.Prelude.{◌%◌, ◌++◌, ◌≡◌};
 ghost use Rattle.text.specs.Line.{decimal, digit};
-ghost use Rattle.page.specs.Page.{added, page};
+ghost use Rattle.page.specs.Page.{Added};
 
 use page::Page;
 
 // Adds bytes, as many as fit.
 pub fn add(text: &mut Page<'_, u8>, bytes: &[u8])
-    ensures same_list { text.new.list.ghost_name ≡ text.old.list.ghost_name }
-    ensures added { page text.new.list.now text.new.next ≡ added bytes.now (page text.old.list.now text.old.next) }
+    ensures { Added bytes.now text.old text.new }
 {
     for &byte in bytes {
         text.add(byte);
@@ -21,8 +20,7 @@ pub fn add(text: &mut Page<'_, u8>, bytes: &[u8])
 // Adds a number in decimal, as many digits as fit. A call adds the last two digits behind a hundredth of the number: that is quicker than
 // a call for each digit.
 pub fn add_number(text: &mut Page<'_, u8>, n: u64)
-    ensures same_list { text.new.list.ghost_name ≡ text.old.list.ghost_name }
-    ensures added { page text.new.list.now text.new.next ≡ added (decimal n) (page text.old.list.now text.old.next) }
+    ensures { Added (decimal n) text.old text.new }
 {
     if n < 10 {
         return text.add(last_digit(n));
@@ -44,8 +42,7 @@ fn last_digit(n: u64) -> u8
 
 // Adds words and a number behind them.
 pub fn add_numbered(text: &mut Page<'_, u8>, words: &[u8], n: u64)
-    ensures same_list { text.new.list.ghost_name ≡ text.old.list.ghost_name }
-    ensures added { page text.new.list.now text.new.next ≡ added (words.now ++ decimal n) (page text.old.list.now text.old.next) }
+    ensures { Added (words.now ++ decimal n) text.old text.new }
 {
     add(text, words);
     add_number(text, n);

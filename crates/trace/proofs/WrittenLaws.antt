@@ -7,8 +7,8 @@ use mathlib.Core.Path.{◌≡◌, refl, sym, ◌∙◌, ap}
 use native.Mathlib.Decide.{dec_lt}
 use native.Mathlib.Nat.{le_of_suc-le-suc, not-suc-le-zero}
 use native.Mathlib.Omega.{arith}
-use Rattle.page.proofs.PageLaws.{added_room, added_then}
-use Rattle.page.specs.Page.{Page, page, added, over}
+use Rattle.page.proofs.PageLaws.{added_room, added_then, both}
+use Rattle.page.specs.Page.{added, over}
 use Rattle.trace.specs.declared.Segment.{Segment}
 use Rattle.trace.specs.Written.{numbers, written, put}
 
@@ -27,16 +27,16 @@ unfolding put
 put_short k s list h = rw (lt-leb (4 * k + 4) (length list) (omega arith))
 
 -- a number is added at a place where there is room
-room : (list : List ℕ) (at n next : ℕ) → at < length list → next ≡ at + 1 → page (set list at n) next ≡ added (n ∷ []) (page list at)
-room list at n next h e = ap (page (set list at n)) e ∙ added_room list at n h
+room : (list : List ℕ) (at n next : ℕ) → at < length list → next ≡ at + 1 → (set list at n, next) ≡ added (n ∷ []) (list, at)
+room list at n next h e = both refl e ∙ added_room list at n h
 
 -- and four one behind the other
 four_set : (list : List ℕ) (at a b c d : ℕ) → at + 4 ≤ length list
-    → page (set (set (set (set list at a) (at + 1) b) (at + 2) c) (at + 3) d) (at + 4) ≡ added (a ∷ b ∷ c ∷ d ∷ []) (page list at)
+    → (set (set (set (set list at a) (at + 1) b) (at + 2) c) (at + 3) d, at + 4) ≡ added (a ∷ b ∷ c ∷ d ∷ []) (list, at)
 four_set list at a b c d fits =
-    added_then (a ∷ b ∷ c ∷ []) (d ∷ []) (page list at)
-    (added_then (a ∷ b ∷ []) (c ∷ []) (page list at)
-    (added_then (a ∷ []) (b ∷ []) (page list at) (room list at a (at + 1) (omega arith) refl)
+    added_then (a ∷ b ∷ c ∷ []) (d ∷ []) (list, at)
+    (added_then (a ∷ b ∷ []) (c ∷ []) (list, at)
+    (added_then (a ∷ []) (b ∷ []) (list, at) (room list at a (at + 1) (omega arith) refl)
     (room (set list at a) (at + 1) b (at + 2) (simp length-set (omega arith)) (omega arith)))
     (room (set (set list at a) (at + 1) b) (at + 2) c (at + 3) (simp length-set (omega arith)) (omega arith)))
     (room (set (set (set list at a) (at + 1) b) (at + 2) c) (at + 3) d (at + 4) (simp length-set (omega arith)) (omega arith))
@@ -48,7 +48,7 @@ pub put_fits : (k : ℕ) (s : Segment) (list : List ℕ) → k < length list / 4
 unfolding put
 put_fits k s list fits =
     rw (le-leb (4 * k + 4) (length list) (omega arith))
-    (sym (ap (λ (p : Page ℕ). p.list) (four_set list (4 * k) s.start.tick s.length.ticks s.server s.deadline.tick (omega arith))))
+    (sym (ap (λ (p : List ℕ × ℕ). p.0) (four_set list (4 * k) s.start.tick s.length.ticks s.server s.deadline.tick (omega arith))))
 
 -- which come to its four numbers laid over them
 over_fits : (m l : List ℕ) → length m ≤ length l → over m l ≡ m ++ drop (length m) l

@@ -2,7 +2,7 @@
 -- whole segments as fit; every later place is untouched."
 use Rattle.std.specs.Prelude.{ℕ, ◌+◌, ◌*◌, ◌/◌, min, leb, length, get_or, cond, List, [], ◌∷◌, ◌++◌}
 use Rattle.clock.specs.Clock.{moment, ticks}
-use Rattle.page.specs.Page.{page, added}
+use Rattle.page.specs.Page.{added}
 use Rattle.trace.specs.declared.Segment.{Segment}
 
 -- "Four 64-bit numbers: start, length, server, deadline"
@@ -32,4 +32,4 @@ segment_in list k = segment_of (get_or list (4 * k) 0) (get_or list (4 * k + 1) 
 
 -- a list with segment k in its four places, from 4 × k on, where it has all four, and any other place untouched; where it has not, as it was
 unfoldable pub put : ℕ → Segment → List ℕ → List ℕ
-put k s list = cond (leb (4 * k + 4) (length list)) (added (numbers s) (page list (4 * k))).list list
+put k s list = cond (leb (4 * k + 4) (length list)) (added (numbers s) (list, 4 * k)).0 list

@@ -7,7 +7,7 @@ use Rattle.report.proofs.RanLaws.{ran_told, report_accepted, report_refused, Lef
 use Rattle.run.specs.declared.Ran.{Ran}
 use Rattle.run.specs.Outcome.{outcome, run_says}
 use Rattle.sizes.specs.Sizes.{most_arrivals, trace_numbers}
-use Rattle.page.proofs.PageLaws.{added_as}
+use Rattle.page.proofs.PageLaws.{adds_as}
 use Rattle.report.proofs.report.Goals as goal
 
 -- what the run has left of lists that held nothing but 0
@@ -25,10 +25,10 @@ left file after ended r e =
 pub accepted-requires : goal.accepted-requires
 accepted-requires c = ran_told (left _ _ _ c.run-ran.result c.run-ran.ensures) c.in-Ok.is
 
-pub returns-in-Ok-clause-added : goal.returns-in-Ok-clause-added
-returns-in-Ok-clause-added c =
-    added_as _ (sym (report_accepted (left _ _ _ c.run-ran.result c.run-ran.ensures) c.in-Ok.is)) c.accepted.ensures.added
+pub returns-in-Ok : goal.returns-in-Ok
+returns-in-Ok c =
+    adds_as (sym (report_accepted (left _ _ _ c.run-ran.result c.run-ran.ensures) c.in-Ok.is)) c.accepted.ensures
 
-pub returns-in-Err-clause-added : goal.returns-in-Err-clause-added
-returns-in-Err-clause-added c =
-    added_as _ (sym (report_refused (left _ _ _ c.run-ran.result c.run-ran.ensures) _ c.in-Err.is)) c.refused.ensures.added
+pub returns-in-Err : goal.returns-in-Err
+returns-in-Err c =
+    adds_as (sym (report_refused (left _ _ _ c.run-ran.result c.run-ran.ensures) _ c.in-Err.is)) c.refused.ensures

@@ -8,5 +8,5 @@ loop-byte-preserved-in-Number-Between c =
     let l = c.loop-byte in
     record {
       same_list = c.add.ensures.same_list ∙ l.invariant.same_list;
-      within = added_within _ _ c.add.ensures.added l.invariant.within;
+      within = added_within _ _ c.add.ensures.filled l.invariant.within;
     }
