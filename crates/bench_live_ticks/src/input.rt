@@ -7,6 +7,7 @@ use std::io::Read;
 pub(crate) fn read_full<R: Read>(input: &mut R, room: &mut [u8]) -> usize
     ensures { IsPrefixLen result room.new }
 {
+    // A `while`: of std's readers the one that fills a room tells no count where the input ends first, and the others fill a Vec.
     let mut done = 0;
     while done < room.len() {
         match input.read(&mut room[done..]) {

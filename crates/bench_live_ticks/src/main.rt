@@ -29,7 +29,7 @@ fn play(rt: &impl Print, file: &[u8], letter: u8) {
     }
 }
 
-// The first letter of the word, 0 where there is none.
+// The first letter of the word, 0 where there is none. No Option: an empty word and none at all choose the same.
 fn letter(rt: &impl Env) -> u8 {
     let mut word = [0u8; 8];
     let _ = rt.arg(1, &mut word);

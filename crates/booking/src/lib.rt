@@ -20,7 +20,7 @@ pub struct Booking {
     pub period: Length,
 }
 
-// A booking sheet: the frame, and the bookings of a table one below the other.
+// A booking sheet: the frame, and the bookings of a table one below the other. No Vec: the project has fixed memory, and no heap.
 #[derive(Clone, Copy, PartialEq, Eq, Debug)]
 pub struct Sheet {
     // H

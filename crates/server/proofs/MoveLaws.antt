@@ -34,8 +34,6 @@ renews_is s t = go (leb s.deadline.tick t.tick) refl
         rw (le-leb ((until t s.deadline).ticks * s.budget.ticks) (s.remaining.ticks * s.period.ticks) (rw none (omega arith)))
     go false e = or_false enough
 
-pub ruleset renewals = (renews_passed, renews_is)
-
 -- a server that keeps has its deadline ahead
 pub keeps_ahead : (s : Server) (t : Moment) → renews s t ≡ false → t.tick < s.deadline.tick
 keeps_ahead s t e = go (leb s.deadline.tick t.tick) refl
@@ -57,8 +55,6 @@ pub arrived_kept : (s : Server) (t : Moment) (cost : Length) → s.waiting.ticks
     → arrived s t cost ≡ with_work s cost
 unfolding arrived
 arrived_kept s t cost h e = rw (eq-eqb _ _ h, e)
-
-pub ruleset arrivals = (arrived_busy, arrived_renewed, arrived_kept)
 
 -- whatever it does besides, w grows by the cost
 pub arrived_waiting : (s : Server) (t : Moment) (cost : Length) → (arrived s t cost).waiting.ticks ≡ s.waiting.ticks + cost.ticks
@@ -98,8 +94,6 @@ served_last s h = rw (eq-eqb _ _ h)
 pub served_more : (s : Server) → (s.remaining.ticks - 1 ≡ 0 → ⊥) → served s ≡ one_tick_less s
 unfolding served
 served_more s h = rw (ne_eqb _ _ h)
-
-pub ruleset services = (served_last, served_more)
 
 -- "d grows by T", which is no length of 0, where the tick was the last of the budget, and nowhere else
 pub served_grows : (s : Server) → 1 ≤ s.period.ticks → ltb s.deadline.tick (served s).deadline.tick ≡ spends_last s

@@ -9,6 +9,7 @@ use Rattle.clock.specs.Clock.{last_tick}
 use Rattle.clock.specs.declared.Length.{Length}
 use Rattle.clock.specs.declared.Moment.{Moment}
 use Rattle.counting.proofs.TestLaws.{none_of_three}
+use Rattle.server.proofs.MoveLaws.{renews_passed, renews_is, arrived_busy, arrived_renewed, arrived_kept, served_last, served_more}
 use Rattle.server.proofs.RangeLaws.{deadline_below, deadline_fits}
 use Rattle.server.specs.Moves.{arrived, served}
 use Rattle.server.specs.Ranges.{Ranged}
@@ -72,7 +73,12 @@ pub tick_served : (s : Server) → unserved s ≡ false → after_tick s ≡ ser
 unfolding after_tick
 tick_served s e = rw e
 
-pub ruleset ticks_served = (not_unserved, tick_served)
+-- the laws that the code of the steps is proved by
+pub ruleset renewals = (renews_passed, renews_is)
+
+pub ruleset arrivals = (arrived_busy, arrived_renewed, arrived_kept)
+
+pub ruleset services = (not_unserved, tick_served, served_last, served_more)
 
 -- a server within its ranges is one of those for which the steps are document 01's
 module _ {s : Server} {t : Moment} (r : Ranged t s) (h : t.tick ≤ clock_end) where

@@ -9,7 +9,7 @@ use clock::{Length, Moment};
 use server::Server;
 
 // The server with the work, and renewed where it was idle and its budget and deadline are not kept.
-#[tactic(auto, using(server::proofs::MoveLaws::arrivals))]
+#[tactic(auto, using(crate::proofs::StepLaws::arrivals))]
 pub(crate) fn arrive(s: Server, now: Moment, cost: Length) -> Server
     requires fits { Fits s now }
     requires ticks_bound { s.waiting.ticks + cost.ticks ≤ most_waiting }
@@ -29,7 +29,7 @@ pub(crate) fn arrive(s: Server, now: Moment, cost: Length) -> Server
 }
 
 // Whether a server that wakes now renews.
-#[tactic(auto, using(server::proofs::MoveLaws::renewals))]
+#[tactic(auto, using(crate::proofs::StepLaws::renewals))]
 fn is_renewed(s: Server, now: Moment) -> bool
     requires { Fits s now }
     ensures { result ≡ renews s now }

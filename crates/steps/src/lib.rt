@@ -32,7 +32,7 @@ pub fn is_passed_over(s: Server) -> bool
 }
 
 // Step 3: the server with one tick less to spend and to do, and postponed where that was the last of its budget.
-#[tactic(auto, using(crate::proofs::StepLaws::ticks_served, server::proofs::MoveLaws::services), unfolding(crate::specs::Steps::after_tick))]
+#[tactic(auto, using(crate::proofs::StepLaws::services), unfolding(crate::specs::Steps::after_tick))]
 pub fn serve(s: Server) -> Server
     ensures { result ≡ after_tick s }
 {

@@ -1,2 +1,1 @@
 pub mod PlayedLaws
-pub mod ScriptLaws

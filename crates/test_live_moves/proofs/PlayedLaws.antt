@@ -1,26 +1,22 @@
--- Playing one move more, and that every dispatcher played is within the ranges.
-use Rattle.std.proofs.Common.{◌≡◌, ℕ, zero, suc, ◌+◌, List, refl, add-one}
-use Rattle.dispatcher.proofs.MoveLaws.{arrival_within, tick_within}
-use Rattle.dispatcher.specs.Within.{Within}
+-- Playing on: one time more, and one line of a list more.
+use Rattle.std.proofs.Common.{◌≡◌, ℕ, ◌+◌, List, [], ◌∷◌, refl, add-one}
 use Rattle.dispatcher.specs.declared.Dispatcher.{Dispatcher}
 use Rattle.test_live_moves.specs.declared.script.Move.{Move}
-use Rattle.test_live_moves.specs.declared.script.Move.TheVariants.{Tick, Arrival}
-use Rattle.test_live_moves.specs.Working.Played.{moved_by, played}
-use Rattle.test_live_moves.specs.Working.Script.{move_at}
+use Rattle.test_live_moves.specs.declared.script.Often.{Often}
+use Rattle.test_live_moves.specs.Working.Played.{made, moved_by, played}
 
-pub played_none : (d : Dispatcher) (list : List ℕ) → d ≡ played d list 0
+pub made_none : (d : Dispatcher) (m : Move) → made d m 0 ≡ d
+unfolding made
+made_none d m = refl
+
+pub made_next : (d : Dispatcher) (m : Move) (k : ℕ) → moved_by (made d m k) m ≡ made d m (k + 1)
+unfolding made
+made_next d m k = rw (add-one k) refl
+
+pub played_none : (d : Dispatcher) → played d [] ≡ d
 unfolding played
-played_none d list = refl
+played_none d = refl
 
-pub played_next : (d : Dispatcher) (list : List ℕ) (k : ℕ) → moved_by (played d list k) (move_at list k) ≡ played d list (k + 1)
+pub played_next : (d : Dispatcher) (often : Often) (more : List Often) → played d (often ∷ more) ≡ played (made d often.of often.times) more
 unfolding played
-played_next d list k = rw (add-one k) refl
-
-pub moved_within : {d : Dispatcher} → Within d → (m : Move) → Within (moved_by d m)
-moved_within ok (Tick written) = tick_within ok
-moved_within ok (Arrival server cost written) = arrival_within ok server cost
-
-pub played_within : {d : Dispatcher} → Within d → (list : List ℕ) (k : ℕ) → Within (played d list k)
-unfolding played
-played_within ok list zero = ok
-played_within ok list (suc k) = moved_within (played_within ok list k) (move_at list k)
+played_next d often more = refl

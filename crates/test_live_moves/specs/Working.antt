@@ -1,3 +1,2 @@
 -- What only private contracts of this crate cite: nothing here has to be believed.
 pub mod Played
-pub mod Script

@@ -11,7 +11,7 @@ mod script;
 use clock::Length;
 use form::{ByValue, Lent};
 use play::play;
-use script::TICK;
+use script::{Often, arrivals, ticks};
 
 fn main(rt: HostRuntime) {
     file_p(&rt);
@@ -29,16 +29,15 @@ fn main(rt: HostRuntime) {
 }
 
 // Opens the table, and plays the list from its dispatcher on in both ways, writing what the dispatcher then is.
-fn both(rt: &impl Print, table: &[u64], frame: u64, list: &[u64]) {
+fn both(rt: &impl Print, table: &[u64], frame: u64, list: &[Often]) {
     let opened = opening::open_table(table, Length { ticks: frame });
     let answer = opened.answer;
     let start = opened.dispatcher;
-    let count = script::count(list);
     say::opening(rt, frame, table.len(), answer);
     say::line(rt, "lent:");
-    say::servers(rt, play::<Lent>(rt, start, list, count));
+    say::servers(rt, play::<Lent>(rt, start, list));
     say::line(rt, "by value:");
-    say::servers(rt, play::<ByValue>(rt, start, list, count));
+    say::servers(rt, play::<ByValue>(rt, start, list));
 }
 
 // Opens the table, and writes its dispatcher.
@@ -52,18 +51,39 @@ fn opened(rt: &impl Print, table: &[u64], frame: u64) {
 // File P: H 10, N 12, servers (2, 5) and (3, 5), arrivals (0, 0, 5), (0, 1, 3), (6, 1, 2).
 fn file_p(rt: &impl Print) {
     say::line(rt, "File P");
-    let moves = [0, 5, 1, 1, 3, 1, TICK, 0, 6, 1, 2, 1, TICK, 0, 6];
+    let moves = [
+        arrivals(0, 5, 1),
+        arrivals(1, 3, 1),
+        ticks(6),
+        arrivals(1, 2, 1),
+        ticks(6),
+    ];
     both(rt, &[2, 5, 3, 5], 10, &moves);
 }
 
 // Server (2, 6) with c 1 and d 6 keeps them at 2, as 6 < 8, renews at 3, as 6 = 6, and renews when its deadline has passed.
 fn waking(rt: &impl Print) {
     say::line(rt, "waking early");
-    both(rt, &[2, 6], 6, &[0, 1, 1, TICK, 0, 2, 0, 1, 1]);
+    both(
+        rt,
+        &[2, 6],
+        6,
+        &[arrivals(0, 1, 1), ticks(2), arrivals(0, 1, 1)],
+    );
     say::line(rt, "waking at equality");
-    both(rt, &[2, 6], 6, &[0, 1, 1, TICK, 0, 3, 0, 1, 1]);
+    both(
+        rt,
+        &[2, 6],
+        6,
+        &[arrivals(0, 1, 1), ticks(3), arrivals(0, 1, 1)],
+    );
     say::line(rt, "waking late");
-    both(rt, &[2, 6], 6, &[0, 1, 1, TICK, 0, 9, 0, 1, 1]);
+    both(
+        rt,
+        &[2, 6],
+        6,
+        &[arrivals(0, 1, 1), ticks(9), arrivals(0, 1, 1)],
+    );
 }
 
 // 2 for the frame, at its edges.
@@ -123,7 +143,14 @@ fn many_servers(rt: &impl Print) {
     say::line(rt, "64 servers and 65");
     let mut table = [64; 128];
     budgets_of_one(&mut table);
-    let moves = [63, 2, 1, TICK, 0, 1, 7, 1, 1, 5, 1, 1, TICK, 0, 4, 64, 1, 1];
+    let moves = [
+        arrivals(63, 2, 1),
+        ticks(1),
+        arrivals(7, 1, 1),
+        arrivals(5, 1, 1),
+        ticks(4),
+        arrivals(64, 1, 1),
+    ];
     both(rt, &table, 64, &moves);
     many_shares(rt);
     let mut longer = [64; 130];
@@ -163,25 +190,49 @@ fn budgets_of_one(table: &mut [u64]) {
 // 6 for the server and for the cost, at their edges.
 fn faulty_arrivals(rt: &impl Print) {
     say::line(rt, "an unknown server");
-    both(rt, &[1, 5], 5, &[1, 1, 1, u64::MAX, 1, 1]);
+    both(
+        rt,
+        &[1, 5],
+        5,
+        &[arrivals(1, 1, 1), arrivals(usize::MAX, 1, 1)],
+    );
     say::line(rt, "costs out of range and in it");
-    both(rt, &[1, 5], 5, &[0, 0, 1, 0, 604801, 1, 0, u64::MAX, 1]);
-    both(rt, &[1, 5], 5, &[0, 604800, 1, 0, 1, 1]);
+    both(
+        rt,
+        &[1, 5],
+        5,
+        &[
+            arrivals(0, 0, 1),
+            arrivals(0, 604801, 1),
+            arrivals(0, u64::MAX, 1),
+        ],
+    );
+    both(rt, &[1, 5], 5, &[arrivals(0, 604800, 1), arrivals(0, 1, 1)]);
 }
 
 // What a refused opening hands back takes moves too.
 fn after_a_refusal(rt: &impl Print) {
     say::line(rt, "moves after a refused opening");
-    both(rt, &[1], 5, &[0, 1, 1, TICK, 0, 1]);
+    both(rt, &[1], 5, &[arrivals(0, 1, 1), ticks(1)]);
 }
 
 // 11: a server filled to 4,294,967,295 refuses a cost of 1, and takes it again once a tick is served.
 fn full_server(rt: &impl Print) {
     say::line(rt, "a full server");
-    let filled = [0, 604800, 7101, 0, 282496, 1, 0, 282495, 1, 0, 1, 1];
+    let filled = [
+        arrivals(0, 604800, 7101),
+        arrivals(0, 282496, 1),
+        arrivals(0, 282495, 1),
+        arrivals(0, 1, 1),
+    ];
     both(rt, &[1, 5], 5, &filled);
     say::line(rt, "a full server that is served");
-    let served = [0, 604800, 7101, 0, 282495, 1, TICK, 0, 1, 0, 1, 2];
+    let served = [
+        arrivals(0, 604800, 7101),
+        arrivals(0, 282495, 1),
+        ticks(1),
+        arrivals(0, 1, 2),
+    ];
     both(rt, &[1, 5], 5, &served);
 }
 
@@ -192,6 +243,11 @@ fn clock_end(rt: &impl Print) {
         rt,
         &[1, 5, 2, 10],
         10,
-        &[0, 3, 1, TICK, 0, 2419201, 1, 7, 1, TICK, 0, 1],
+        &[
+            arrivals(0, 3, 1),
+            ticks(2419201),
+            arrivals(1, 7, 1),
+            ticks(1),
+        ],
     );
 }
