@@ -8,7 +8,7 @@ ghost use Rattle.booking.specs.Admission.{shares};
 ghost use Rattle.books.proofs.Accepted.{Accepted};
 ghost use Rattle.report.specs.DayReport.{accepted_report, day_report, segment_line, server_line};
 ghost use Rattle.report.specs.Working.AfterRun.{AfterRun, job_in};
-ghost use Rattle.sizes.specs.Sizes.{most_arrivals, most_servers, trace_numbers};
+ghost use Rattle.sizes.specs.Sizes.{most_arrivals, most_servers};
 ghost use Rattle.summary.specs.Summary.{blank, trace_of};
 ghost use Rattle.page.specs.Page.{added, Added, each};
 ghost use Rattle.trace.specs.Written.{segment_in};

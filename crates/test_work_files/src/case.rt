@@ -27,6 +27,7 @@ pub(crate) fn first(numbers: &[u32]) -> Option<(Case<'_>, &[u32])>
     ensures { IfSome result (λ r. length r.1.now < length numbers.now) }
 {
     let (&[t, f, l, w], behind) = numbers.split_first_chunk::<4>()?;
+    // By `as`, since there is no `From` from a u32 to a usize.
     let (words, behind) = behind.split_at_checked(w as usize)?;
     let case = Case {
         places: t as usize,

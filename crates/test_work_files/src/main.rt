@@ -7,8 +7,6 @@ mod input;
 mod say;
 mod script;
 
-ghost use Rattle.std.specs.Prelude.{◌≤◌, length};
-
 use fault::Fault;
 
 // A script is shorter.

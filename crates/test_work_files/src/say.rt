@@ -53,6 +53,7 @@ fn server(rt: &impl Print, i: usize, s: Summary) {
     let _ = println!(rt; " postponed {} interrupted {}", s.postponed, s.interrupted);
 }
 
+// Field by field, since the records of `summary` derive no `==`.
 fn is_blank(s: Summary) -> bool {
     matches!(s.response, Response::Absent)
         && s.arrived == 0
