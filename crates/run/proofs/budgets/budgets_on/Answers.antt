@@ -9,13 +9,6 @@ use Rattle.clock.specs.declared.Moment.{Moment}
 use Rattle.server.specs.Server.{holding}
 use Rattle.run.proofs.budgets.budgets_on.Goals as goal
 
-pub less-requires : goal.less-requires
-less-requires c = omega (arith, ap (λ (l : Length). l.ticks) c.times.ensures, c.requires.works)
-
-pub times-requires-2 : goal.times-requires-2
-times-requires-2 c =
-    omega (arith, periods_few c.args.s c.args.n c.requires.able c.requires.few)
-
 pub returns : goal.returns
 returns c =
     let s = c.args.s in

@@ -11,14 +11,6 @@ use Rattle.clock.specs.declared.Moment.{Moment}
 use Rattle.server.specs.declared.Server.{Server}
 use Rattle.run.proofs.budgets.last_of.Goals as goal
 
-pub budgets_on-last-requires : goal.budgets_on-last-requires
-budgets_on-last-requires c =
-    let pre = c.requires in
-    record { able = pre.able; few = omega (arith, budgets_few pre); works = omega (arith, pre.works) }
-
-pub times-requires : goal.times-requires
-times-requires c = omega (arith, c.requires.time)
-
 pub less-requires : goal.less-requires
 unfolding budgets_on
 less-requires c = omega (arith, ap (λ (s : Server). s.waiting.ticks) c.budgets_on-last.ensures, c.requires.works)

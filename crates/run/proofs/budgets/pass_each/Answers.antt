@@ -27,13 +27,3 @@ loop-preserved c =
     c.later-at.ensures
     c.later-deadline.ensures
     (search rules))
-
-pub shape_of-list : goal.shape_of-list
-shape_of-list c = c.loop.invariant.places
-
-pub returns : goal.returns
-returns c =
-    let a = c.args in
-    let p = c.loop.invariant in
-    let all : c.loop.counter ≡ a.n = le_antisymm p.within c.loop-test.false in
-    p.segments_is ∙ ap (turned_on (segment_book a.list.now a.c) a.t.tick a.i a.s) all

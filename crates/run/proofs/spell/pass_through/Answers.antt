@@ -13,10 +13,6 @@ use Rattle.books.specs.declared.PlannedSpell.{PlannedSpell}
 use Rattle.sizes.specs.Sizes.{clock_end}
 use Rattle.run.proofs.spell.pass_through.Goals as goal
 
-pub turn_to-requires : goal.turn_to-requires
-turn_to-requires c =
-    bounded_end c.requires.bounded (omega arith)
-
 pub returns-then-budgets-eq0 : goal.returns-then-budgets-eq0
 unfolding turned_on
 returns-then-budgets-eq0 c =
@@ -44,11 +40,3 @@ pass-requires c =
             counted = by.counted;
           };
     }
-
-pub returns : goal.returns
-returns c =
-    let a = c.args in
-    c.pass.ensures
-    ∙ ap₂ (λ (x : SegmentBook) (m : Moment). turned_on (with_waits x a.p.after.waiting) m.tick a.i a.p.after a.p.budgets)
-    c.turn_to.ensures
-    (begins a.t a.p c.requires.budgets_from c.later.ensures)

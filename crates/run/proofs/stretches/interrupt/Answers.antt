@@ -18,18 +18,6 @@ place : {test : Bool} (server waits next : ℕ) → test ≡ (ltb server most_se
     → test ≡ true → server < most_servers
 place server waits next is holds = interrupted_server server waits next (so server waits next is holds)
 
-pub offset_bounds-interrupted-c : goal.offset_bounds-interrupted-c
-offset_bounds-interrupted-c c =
-    let a = c.args in omega (arith, place a.c.server a.c.waits.ticks a.i c.interrupted_by.ensures c.if-interrupted_by.true)
-
-pub bounds-interrupted-c : goal.bounds-interrupted-c
-bounds-interrupted-c c =
-    let a = c.args in place a.c.server a.c.waits.ticks a.i c.interrupted_by.ensures c.if-interrupted_by.true
-
-pub bounds-interrupted-c-then-interrupted_by : goal.bounds-interrupted-c-then-interrupted_by
-bounds-interrupted-c-then-interrupted_by c =
-    let a = c.args in place a.c.server a.c.waits.ticks a.i c.interrupted_by.ensures c.if-interrupted_by.true
-
 pub returns-then-interrupted_by : goal.returns-then-interrupted_by
 returns-then-interrupted_by c =
     let a = c.args in
