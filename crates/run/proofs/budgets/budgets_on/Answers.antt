@@ -1,8 +1,7 @@
 -- `run::budgets::budgets_on` meets its promise: within its ranges no number is too large, and the deadline is shown as it is.
 use Prim.Native.Nat.{◌-◌}
 use mathlib.Core.Path.{◌∙◌, ap, ap₂, sym}
-use native.Mathlib.Omega.{arith}
-use Rattle.books.proofs.Budgets.BudgetLaws.{periods_few, budgets_as}
+use Rattle.books.proofs.Budgets.BudgetLaws.{budgets_as}
 use Rattle.clock.specs.Clock.{later, up_to_last}
 use Rattle.clock.specs.declared.Length.{Length}
 use Rattle.clock.specs.declared.Moment.{Moment}

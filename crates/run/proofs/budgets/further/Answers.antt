@@ -1,6 +1,6 @@
 -- `run::budgets::further` meets its promise: it takes the lesser of how many budgets fit and how many win.
 use native.Mathlib.Omega.{arith}
-use Rattle.books.proofs.Budgets.BudgetLaws.{further_none, further_some}
+use Rattle.books.proofs.Budgets.BudgetLaws.{further_some}
 use Rattle.run.proofs.budgets.further.Goals as goal
 
 pub returns : goal.returns

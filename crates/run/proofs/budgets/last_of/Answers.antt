@@ -2,7 +2,6 @@
 use Prim.Native.Nat.{ℕ, ◌+◌, ◌*◌}
 use mathlib.Core.Path.{◌∙◌, ap, ap₂}
 use native.Mathlib.Omega.{arith}
-use Rattle.books.proofs.Budgets.BudgetLaws.{budgets_few}
 use Rattle.books.proofs.Budgets.Budgets.{budgets_on}
 use Rattle.clock.proofs.ClockLaws.{up_to_last_whole}
 use Rattle.clock.specs.Clock.{later, moment, up_to_last}

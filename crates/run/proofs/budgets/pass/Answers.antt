@@ -1,11 +1,11 @@
 -- `run::budgets::pass` meets its promise: where not every budget is written, the list is full before the first that is skipped.
 use Prim.Native.Nat.{ℕ, suc, ◌+◌, ◌-◌, ◌/◌, ◌≤◌, ◌<◌, min}
 use lib.ListN.{length}
-use mathlib.Core.Path.{◌≡◌, sym, ◌∙◌, ap, ap₂, subst}
+use mathlib.Core.Path.{◌≡◌, sym, ◌∙◌, ap, ap₂}
 use native.Mathlib.Omega.{arith}
 use Rattle.books.proofs.Book.{SegmentBook, segment_book, segments_same}
-use Rattle.books.proofs.Budgets.BudgetLaws.{budgets_few, budgets_less, on_bounded}
-use Rattle.books.proofs.Budgets.Budgets.{turned_on, BudgetsFrom}
+use Rattle.books.proofs.Budgets.BudgetLaws.{budgets_few, on_bounded}
+use Rattle.books.proofs.Budgets.Budgets.{turned_on}
 use Rattle.books.proofs.Budgets.Skipped.{last_of, counted_least, skipped}
 use Rattle.run.proofs.budgets.pass.Goals as goal
 

@@ -1,10 +1,6 @@
 -- `run::budgets::pass_each` meets its promise: after k turns all stands as after k budgets.
 use borrow.Author.Rules.{rules}
-use mathlib.Core.Path.{◌≡◌, ◌∙◌, ap}
-use native.Mathlib.Nat.{le_antisymm}
 use native.Mathlib.Numerals.{add-one}
-use Rattle.books.proofs.Book.{segment_book}
-use Rattle.books.proofs.Budgets.Budgets.{turned_on}
 use Rattle.run.proofs.PassedLaws.{enough, may_end, passed_more, passed_none}
 use Rattle.run.proofs.budgets.pass_each.Goals as goal
 

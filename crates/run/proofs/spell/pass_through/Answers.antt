@@ -1,11 +1,11 @@
 -- `run::spell::pass_through` meets its promise: the turn at t leaves the segments within what the budgets that follow ask for.
 use Prim.Native.Nat.{ℕ, ◌+◌}
-use mathlib.Core.Path.{◌≡◌, ◌∙◌, sym, ap, ap₂, subst⁻¹}
+use mathlib.Core.Path.{◌≡◌, ◌∙◌, sym, ap, subst⁻¹}
 use native.Mathlib.Omega.{arith}
 use Rattle.books.proofs.Book.{SegmentBook, segment_book, with_waits}
 use Rattle.books.proofs.Budgets.Budgets.{turned_on, BudgetsFrom}
 use Rattle.books.proofs.Spell.SpellLeaves.{after_ticks}
-use Rattle.books.proofs.Stretches.Turns.{Bounded, bounded_end, turned_bounded}
+use Rattle.books.proofs.Stretches.Turns.{Bounded, turned_bounded}
 use Rattle.clock.proofs.ClockLaws.{up_to_last_whole}
 use Rattle.clock.specs.Clock.{later, moment, up_to_last}
 use Rattle.clock.specs.declared.Moment.{Moment}

@@ -3,7 +3,6 @@ use Prim.Native.Nat.{ℕ, ◌<◌}
 use lib.Dec.{eqb, ltb}
 use mathlib.Core.Bool.{Bool, true, not, ◌&&◌}
 use mathlib.Core.Path.{◌≡◌, sym, ◌∙◌}
-use native.Mathlib.Omega.{arith}
 use Rattle.books.proofs.Stretches.Interruptions.{one_more, none_more}
 use Rattle.sizes.specs.Sizes.{most_servers}
 use Rattle.summary.proofs.InterruptedLaws.{interrupted_by, interrupted_server}

@@ -3,18 +3,15 @@ use Prim.Native.Nat.{ℕ, ◌<◌}
 use lib.ListN.{length}
 use mathlib.Core.List.{List}
 use mathlib.Core.Path.{refl, sym, ◌∙◌, ap, subst⁻¹}
-use native.Mathlib.Nat.{le_antisymm}
 use native.Mathlib.Numerals.{add-one}
 use native.Mathlib.Omega.{arith}
 use Rattle.books.proofs.Accepted.{fit_beside}
 use Rattle.books.proofs.Book.{Run, lent_in, Here, here, Book, SegmentBook, job_book, segment_book}
 use Rattle.books.proofs.Spell.SpellEvent.{place, picked_serves, may_go, SpellOver, spell_over}
-use Rattle.books.proofs.Stretches.Turns.{bounded_end}
 use Rattle.books.proofs.Travel.ArrivalTaken.{Takes, takes, due_here, due_now, taking_more}
-use Rattle.books.proofs.Travel.BetweenEvents.{Ahead, stop_ahead, bounded, root_pick, list_long, finishes_long}
+use Rattle.books.proofs.Travel.BetweenEvents.{Ahead, stop_ahead, root_pick}
 use Rattle.books.proofs.Travel.IdleTime.{idled_on}
-use Rattle.books.proofs.Travel.Travels.{MayTravel, taking_none, travels_taking}
-use Rattle.clock.specs.Clock.{moment}
+use Rattle.books.proofs.Travel.Travels.{MayTravel, travels_taking}
 use Rattle.clock.specs.declared.Moment.{Moment}
 use Rattle.dispatcher.specs.Pick.{Earliest}
 use Rattle.judgement.proofs.FitLaws.{Fit}
