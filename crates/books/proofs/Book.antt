@@ -1,7 +1,7 @@
 -- What a run keeps as it goes from event to event, and where it stands.
 use Prim.Native.Nat.{ℕ}
 use mathlib.Core.List.{List}
-use mathlib.Core.Path.{◌≡◌, ◌∙◌, ap, ap₂}
+use mathlib.Core.Path.{◌≡◌, ◌∙◌, ap₂}
 use Rattle.clock.specs.declared.Length.{Length}
 use Rattle.dispatcher.specs.declared.Dispatcher.{Dispatcher}
 use Rattle.moments.specs.Moments.{history}

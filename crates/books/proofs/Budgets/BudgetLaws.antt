@@ -1,7 +1,7 @@
 -- Laws of whole budgets in one go: how many there may be, and that no number on the way is too large.
-use Prim.Native.Nat.{ℕ, zero, suc, ◌+◌, ◌-◌, ◌*◌, ◌/◌, ◌≤◌, ◌<◌}
+use Prim.Native.Nat.{ℕ, zero, suc, ◌+◌, ◌-◌, ◌*◌, ◌≤◌, ◌<◌}
 use mathlib.Core.Path.{◌≡◌, sym, ◌∙◌, ap}
-use native.Mathlib.Nat.{div-mul-le_self, div-le_self, le-mul_of_pos_right, mul-le-mul_right, mul-le-mul}
+use native.Mathlib.Nat.{le-mul_of_pos_right, mul-le-mul_right, mul-le-mul}
 use native.Mathlib.Omega.{arith}
 use Rattle.clock.proofs.ClockLaws.{up_to_last_whole}
 use Rattle.clock.specs.Clock.{moment, ticks, later, up_to_last}
@@ -17,18 +17,6 @@ use Rattle.books.proofs.Tree.Winners.{Rival}
 -- the first r of the numbers that rise from `from` on by `step` are below a bound
 abbrev pub RisesBelow : ℕ → ℕ → ℕ → ℕ → Type 0
 RisesBelow from step bound r = (n : ℕ) → n < r → from + n * step < bound
-
-pub rises_below : (from step bound : ℕ) → from < bound → RisesBelow from step bound ((bound - from - 1) / step + 1)
-rises_below from step bound l n b =
-    let within : n ≤ (bound - from - 1) / step = omega arith in
-    omega (arith, mul-le-mul_right step within, div-mul-le_self (bound - from - 1) step)
-
--- there are fewer of them than numbers below the bound
-pub rises_few : (from step bound : ℕ) → from < bound → (bound - from - 1) / step + 1 ≤ bound
-rises_few from step bound l = omega (arith, div-le_self (bound - from - 1) step)
-
-pub fits_in : (budget spare : ℕ) → 1 ≤ spare → (spare - 1) / budget * budget < spare
-fits_in budget spare l = omega (arith, div-mul-le_self (spare - 1) budget)
 
 -- How many budgets a server may go on for: none,
 pub further_none : (tree : WinnerTree) (i : ℕ) (s : Server) (spare : ℕ) → Further tree i s spare 0

@@ -2,7 +2,6 @@
 use Prim.Native.Nat.{ℕ, ◌<◌}
 use lib.ListN.{get_or, set}
 use lib.Seq.{get_or-set_same}
-use mathlib.Core.List.{List}
 use mathlib.Core.Path.{◌≡◌, subst, subst⁻¹}
 use native.Mathlib.Decide.{dec_lt}
 use native.Mathlib.Omega.{arith}

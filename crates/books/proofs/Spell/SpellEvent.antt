@@ -1,7 +1,6 @@
 -- An event in which a server runs: the one that is picked, its job being opened, goes for a spell up to a moment ahead.
 use Prim.Native.Nat.{ℕ, suc, ◌+◌, ◌-◌, ◌≤◌, ◌<◌, min}
 use lib.ListN.{length, get_or, set}
-use mathlib.Core.List.{List}
 use mathlib.Core.Path.{◌≡◌, ◌∙◌, ap, subst, subst⁻¹}
 use native.Mathlib.Omega.{arith}
 use Rattle.clock.proofs.ClockLaws.{up_to_last_whole}

@@ -1,7 +1,7 @@
 -- A run from event to event: what holds of it between two events, where it stands and in its book.
-use Prim.Native.Nat.{ℕ, ◌+◌, ◌≤◌, ◌<◌}
+use Prim.Native.Nat.{ℕ, ◌+◌, ◌≤◌}
 use borrow.Author.Tests.{eq-eqb}
-use lib.ListN.{length, get_or, replicate, get_or-replicate}
+use lib.ListN.{length, replicate, get_or-replicate}
 use mathlib.Core.List.{List}
 use mathlib.Core.Path.{◌≡◌, refl, sym, ◌∙◌, ap}
 use native.Mathlib.Omega.{arith}
@@ -20,7 +20,6 @@ use Rattle.books.proofs.Accepted.{Accepted, next_stop}
 use Rattle.books.proofs.Book.{Run, lent_in, Here, here, Book, book, turns_of, JobBook, job_book, segment_book, with_segments, with_tree}
 use Rattle.books.proofs.Jobs.FinishList.{finishes_again}
 use Rattle.books.proofs.Jobs.JobBooks.{Jobs, jobs_start, jobs_later}
-use Rattle.books.proofs.Jobs.Jobs.{NextJob}
 use Rattle.books.proofs.Jobs.Lined.{Lined}
 use Rattle.books.proofs.Stretches.Interruptions.{interruptions_start}
 use Rattle.books.proofs.Stretches.Segmented.{at_rest, segmented_start}

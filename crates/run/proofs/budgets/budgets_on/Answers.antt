@@ -1,20 +1,12 @@
 -- `run::budgets::budgets_on` meets its promise: within its ranges no number is too large, and the deadline is shown as it is.
 use Prim.Native.Nat.{◌-◌}
 use mathlib.Core.Path.{◌∙◌, ap, ap₂, sym}
-use native.Mathlib.Omega.{arith}
-use Rattle.books.proofs.Budgets.BudgetLaws.{periods_few, budgets_as}
+use Rattle.books.proofs.Budgets.BudgetLaws.{budgets_as}
 use Rattle.clock.specs.Clock.{later, up_to_last}
 use Rattle.clock.specs.declared.Length.{Length}
 use Rattle.clock.specs.declared.Moment.{Moment}
 use Rattle.server.specs.Server.{holding}
 use Rattle.run.proofs.budgets.budgets_on.Goals as goal
-
-pub less-requires : goal.less-requires
-less-requires c = omega (arith, ap (λ (l : Length). l.ticks) c.times.ensures, c.requires.works)
-
-pub times-requires-2 : goal.times-requires-2
-times-requires-2 c =
-    omega (arith, periods_few c.args.s c.args.n c.requires.able c.requires.few)
 
 pub returns : goal.returns
 returns c =

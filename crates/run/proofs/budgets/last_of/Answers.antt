@@ -2,7 +2,6 @@
 use Prim.Native.Nat.{ℕ, ◌+◌, ◌*◌}
 use mathlib.Core.Path.{◌∙◌, ap, ap₂}
 use native.Mathlib.Omega.{arith}
-use Rattle.books.proofs.Budgets.BudgetLaws.{budgets_few}
 use Rattle.books.proofs.Budgets.Budgets.{budgets_on}
 use Rattle.clock.proofs.ClockLaws.{up_to_last_whole}
 use Rattle.clock.specs.Clock.{later, moment, up_to_last}
@@ -10,14 +9,6 @@ use Rattle.clock.specs.declared.Length.{Length}
 use Rattle.clock.specs.declared.Moment.{Moment}
 use Rattle.server.specs.declared.Server.{Server}
 use Rattle.run.proofs.budgets.last_of.Goals as goal
-
-pub budgets_on-last-requires : goal.budgets_on-last-requires
-budgets_on-last-requires c =
-    let pre = c.requires in
-    record { able = pre.able; few = omega (arith, budgets_few pre); works = omega (arith, pre.works) }
-
-pub times-requires : goal.times-requires
-times-requires c = omega (arith, c.requires.time)
 
 pub less-requires : goal.less-requires
 unfolding budgets_on

@@ -1,26 +1,13 @@
 -- `run::budgets::pass` meets its promise: where not every budget is written, the list is full before the first that is skipped.
 use Prim.Native.Nat.{ℕ, suc, ◌+◌, ◌-◌, ◌/◌, ◌≤◌, ◌<◌, min}
 use lib.ListN.{length}
-use mathlib.Core.Path.{◌≡◌, sym, ◌∙◌, ap, ap₂, subst}
+use mathlib.Core.Path.{◌≡◌, sym, ◌∙◌, ap, ap₂}
 use native.Mathlib.Omega.{arith}
 use Rattle.books.proofs.Book.{SegmentBook, segment_book, segments_same}
-use Rattle.books.proofs.Budgets.BudgetLaws.{budgets_few, budgets_less, on_bounded}
-use Rattle.books.proofs.Budgets.Budgets.{turned_on, BudgetsFrom}
+use Rattle.books.proofs.Budgets.BudgetLaws.{budgets_few, on_bounded}
+use Rattle.books.proofs.Budgets.Budgets.{turned_on}
 use Rattle.books.proofs.Budgets.Skipped.{last_of, counted_least, skipped}
 use Rattle.run.proofs.budgets.pass.Goals as goal
-
-pub pass_each-current-requires : goal.pass_each-current-requires
-pass_each-current-requires c =
-    record {
-      budgets_from = budgets_less c.min-written.result (omega (arith, c.min-written.ensures)) c.requires.budgets_from;
-      bounded = c.requires.bounded;
-    }
-
-pub returns-then-written-n : goal.returns-then-written-n
-returns-then-written-n c =
-    let a = c.args in
-    c.pass_each-current.ensures
-    ∙ ap (turned_on (segment_book a.list.now a.c) a.t.tick a.i a.s) c.if-written-n.true
 
 -- Where not every budget is written, some are skipped, and one is written.
 some : (written n most : ℕ) → written ≡ min n most → (written ≡ n → ⊥) → written < n
@@ -28,9 +15,6 @@ some written n most least other = omega (arith, least)
 
 one : (written n most : ℕ) → written ≡ min n most → (written ≡ n → ⊥) → 1 ≤ most → 1 ≤ written
 one written n most least other lower = omega (arith, least)
-
-pub overflow_sub-n : goal.overflow_sub-n
-overflow_sub-n c = omega (arith, some _ _ _ c.min-written.ensures c.if-written-n.false)
 
 pub overflow_add-current : goal.overflow_add-current
 overflow_add-current c =
@@ -42,12 +26,6 @@ overflow_add-current c =
       ap (λ (x : SegmentBook). x.current.count) c.pass_each-current.ensures,
       (on_bounded a.i a.s c.min-written.result c.requires.bounded).counted,
     )
-
-pub last_of-requires : goal.last_of-requires
-last_of-requires c =
-    let a = c.args in
-    let whole : a.n ≡ suc (a.n - 1) = omega (arith, some _ _ _ c.min-written.ensures c.if-written-n.false) in
-    subst (BudgetsFrom a.t.tick a.i a.s) whole c.requires.budgets_from
 
 pub returns : goal.returns
 returns c =

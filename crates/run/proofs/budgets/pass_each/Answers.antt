@@ -1,10 +1,6 @@
 -- `run::budgets::pass_each` meets its promise: after k turns all stands as after k budgets.
 use borrow.Author.Rules.{rules}
-use mathlib.Core.Path.{◌≡◌, ◌∙◌, ap}
-use native.Mathlib.Nat.{le_antisymm}
 use native.Mathlib.Numerals.{add-one}
-use Rattle.books.proofs.Book.{segment_book}
-use Rattle.books.proofs.Budgets.Budgets.{turned_on}
 use Rattle.run.proofs.PassedLaws.{enough, may_end, passed_more, passed_none}
 use Rattle.run.proofs.budgets.pass_each.Goals as goal
 
@@ -27,13 +23,3 @@ loop-preserved c =
     c.later-at.ensures
     c.later-deadline.ensures
     (search rules))
-
-pub shape_of-list : goal.shape_of-list
-shape_of-list c = c.loop.invariant.places
-
-pub returns : goal.returns
-returns c =
-    let a = c.args in
-    let p = c.loop.invariant in
-    let all : c.loop.counter ≡ a.n = le_antisymm p.within c.loop-test.false in
-    p.segments_is ∙ ap (turned_on (segment_book a.list.now a.c) a.t.tick a.i a.s) all

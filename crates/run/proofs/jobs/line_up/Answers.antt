@@ -1,6 +1,6 @@
 -- `run::jobs::line_up` meets its promise: each turn puts one arrival more before those that are lined up.
 use Prim.Native.Nat.{ℕ, suc, ◌-◌, ◌≤◌, ◌<◌}
-use lib.ListN.{get_or, set, replicate, length-replicate}
+use lib.ListN.{get_or, set}
 use mathlib.Core.List.{List}
 use mathlib.Core.Path.{◌≡◌, refl, sym, ap, subst, subst⁻¹, subst₂}
 use native.Mathlib.Omega.{arith}

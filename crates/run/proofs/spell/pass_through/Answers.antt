@@ -1,21 +1,17 @@
 -- `run::spell::pass_through` meets its promise: the turn at t leaves the segments within what the budgets that follow ask for.
 use Prim.Native.Nat.{ℕ, ◌+◌}
-use mathlib.Core.Path.{◌≡◌, ◌∙◌, sym, ap, ap₂, subst⁻¹}
+use mathlib.Core.Path.{◌≡◌, ◌∙◌, sym, ap, subst⁻¹}
 use native.Mathlib.Omega.{arith}
 use Rattle.books.proofs.Book.{SegmentBook, segment_book, with_waits}
 use Rattle.books.proofs.Budgets.Budgets.{turned_on, BudgetsFrom}
 use Rattle.books.proofs.Spell.SpellLeaves.{after_ticks}
-use Rattle.books.proofs.Stretches.Turns.{Bounded, bounded_end, turned_bounded}
+use Rattle.books.proofs.Stretches.Turns.{Bounded, turned_bounded}
 use Rattle.clock.proofs.ClockLaws.{up_to_last_whole}
 use Rattle.clock.specs.Clock.{later, moment, up_to_last}
 use Rattle.clock.specs.declared.Moment.{Moment}
 use Rattle.books.specs.declared.PlannedSpell.{PlannedSpell}
 use Rattle.sizes.specs.Sizes.{clock_end}
 use Rattle.run.proofs.spell.pass_through.Goals as goal
-
-pub turn_to-requires : goal.turn_to-requires
-turn_to-requires c =
-    bounded_end c.requires.bounded (omega arith)
 
 pub returns-then-budgets-eq0 : goal.returns-then-budgets-eq0
 unfolding turned_on
@@ -44,11 +40,3 @@ pass-requires c =
             counted = by.counted;
           };
     }
-
-pub returns : goal.returns
-returns c =
-    let a = c.args in
-    c.pass.ensures
-    ∙ ap₂ (λ (x : SegmentBook) (m : Moment). turned_on (with_waits x a.p.after.waiting) m.tick a.i a.p.after a.p.budgets)
-    c.turn_to.ensures
-    (begins a.t a.p c.requires.budgets_from c.later.ensures)

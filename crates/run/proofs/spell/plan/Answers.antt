@@ -17,15 +17,6 @@ ticks_are e = ap (λ (l : Length). l.ticks) e
 none : (tree : WinnerTree) (i : ℕ) (s : Server) (spare : ℕ) {b : ℕ} → Further tree i s spare b → b ≡ 0 → Further tree i s spare 0
 none tree i s spare further e = subst (Further tree i s spare) e further
 
-pub serve-after-requires : goal.serve-after-requires
-serve-after-requires c =
-    let pre = c.requires in
-    record {
-      budget = omega (arith, c.min.ensures);
-      work = omega (arith, c.min.ensures, pre.work);
-      deadline = omega (arith, pre.able.deadline, pre.able.period);
-    }
-
 pub further-budgets-requires : goal.further-budgets-requires
 further-budgets-requires c =
     record {

@@ -3,7 +3,6 @@ use Prim.Native.Nat.{ℕ, ◌<◌}
 use lib.Dec.{eqb, ltb}
 use mathlib.Core.Bool.{Bool, true, not, ◌&&◌}
 use mathlib.Core.Path.{◌≡◌, sym, ◌∙◌}
-use native.Mathlib.Omega.{arith}
 use Rattle.books.proofs.Stretches.Interruptions.{one_more, none_more}
 use Rattle.sizes.specs.Sizes.{most_servers}
 use Rattle.summary.proofs.InterruptedLaws.{interrupted_by, interrupted_server}
@@ -17,18 +16,6 @@ so server waits next is holds = sym is ∙ holds
 place : {test : Bool} (server waits next : ℕ) → test ≡ (ltb server most_servers && ltb next most_servers && ltb 0 waits && not (eqb server next))
     → test ≡ true → server < most_servers
 place server waits next is holds = interrupted_server server waits next (so server waits next is holds)
-
-pub offset_bounds-interrupted-c : goal.offset_bounds-interrupted-c
-offset_bounds-interrupted-c c =
-    let a = c.args in omega (arith, place a.c.server a.c.waits.ticks a.i c.interrupted_by.ensures c.if-interrupted_by.true)
-
-pub bounds-interrupted-c : goal.bounds-interrupted-c
-bounds-interrupted-c c =
-    let a = c.args in place a.c.server a.c.waits.ticks a.i c.interrupted_by.ensures c.if-interrupted_by.true
-
-pub bounds-interrupted-c-then-interrupted_by : goal.bounds-interrupted-c-then-interrupted_by
-bounds-interrupted-c-then-interrupted_by c =
-    let a = c.args in place a.c.server a.c.waits.ticks a.i c.interrupted_by.ensures c.if-interrupted_by.true
 
 pub returns-then-interrupted_by : goal.returns-then-interrupted_by
 returns-then-interrupted_by c =

@@ -3,18 +3,15 @@ use Prim.Native.Nat.{ℕ, ◌<◌}
 use lib.ListN.{length}
 use mathlib.Core.List.{List}
 use mathlib.Core.Path.{refl, sym, ◌∙◌, ap, subst⁻¹}
-use native.Mathlib.Nat.{le_antisymm}
 use native.Mathlib.Numerals.{add-one}
 use native.Mathlib.Omega.{arith}
 use Rattle.books.proofs.Accepted.{fit_beside}
 use Rattle.books.proofs.Book.{Run, lent_in, Here, here, Book, SegmentBook, job_book, segment_book}
 use Rattle.books.proofs.Spell.SpellEvent.{place, picked_serves, may_go, SpellOver, spell_over}
-use Rattle.books.proofs.Stretches.Turns.{bounded_end}
 use Rattle.books.proofs.Travel.ArrivalTaken.{Takes, takes, due_here, due_now, taking_more}
-use Rattle.books.proofs.Travel.BetweenEvents.{Ahead, stop_ahead, bounded, root_pick, list_long, finishes_long}
+use Rattle.books.proofs.Travel.BetweenEvents.{Ahead, stop_ahead, root_pick}
 use Rattle.books.proofs.Travel.IdleTime.{idled_on}
-use Rattle.books.proofs.Travel.Travels.{MayTravel, taking_none, travels_taking}
-use Rattle.clock.specs.Clock.{moment}
+use Rattle.books.proofs.Travel.Travels.{MayTravel, travels_taking}
 use Rattle.clock.specs.declared.Moment.{Moment}
 use Rattle.dispatcher.specs.Pick.{Earliest}
 use Rattle.judgement.proofs.FitLaws.{Fit}
@@ -26,21 +23,6 @@ use Rattle.run.proofs.travel.to_moment.Goals.{In-loop-next, After-arrival_of-a, 
 its_fit : {file : List ℕ} {until : ℕ} {r : Run} {h : Here} {b : Book} → MayTravel file until r h b
     → Fit (work file) (length r.finishes)
 its_fit pre = fit_beside _ pre.accepted.fit pre.long
-
-pub next_stop-next-requires : goal.next_stop-next-requires
-next_stop-next-requires c = c.requires.accepted
-
-pub loop-t-init : goal.loop-t-init
-loop-t-init c =
-    record {
-      travels = c.requires.travels;
-      by = c.requires.ahead;
-      next_is = ap (λ (m : Moment). m.tick) c.next_stop-next.ensures;
-      root_is = refl;
-    }
-
-pub loop-next-init : goal.loop-next-init
-loop-next-init c = taking_none c.loop-t.invariant
 
 -- An arrival that is due, and as it was read.
 due : (r : In-loop-next) → r.loop-next.j < (work r.args.file.now).arrivals
@@ -75,12 +57,6 @@ offset_bounds-d-i-in-loop-next c = omega (arith, (taken (goal.at.offset_bounds-d
 pub bounds-d-i-in-loop-next : goal.bounds-d-i-in-loop-next
 bounds-d-i-in-loop-next c = (taken (goal.at.bounds-d-i-in-loop-next c).After-arrival_of-a).place
 
-pub overflow_add-j : goal.overflow_add-j
-overflow_add-j c = omega (arith, due (goal.at.overflow_add-j c).In-loop-next, (its_fit c.requires).arrivals)
-
-pub next_stop-next-requires-in-loop-next : goal.next_stop-next-requires-in-loop-next
-next_stop-next-requires-in-loop-next c = c.requires.accepted
-
 pub loop-next-smaller : goal.loop-next-smaller
 loop-next-smaller c = omega (arith, due (goal.at.loop-next-smaller c).In-loop-next)
 
@@ -93,13 +69,6 @@ loop-next-preserved c =
     ((taken r).keyed _ g.keyed c.take.ensures.set)
     (rw add-one at (ap (λ (m : Moment). m.tick) c.next_stop-next-in-loop-next.ensures))
     refl)
-
-pub idle-c-requires : goal.idle-c-requires
-idle-c-requires c =
-    bounded_end (bounded (its_fit c.requires) (travels_taking c.loop-t.invariant.travels c.loop-next.invariant)) (omega arith)
-
-pub loop-t-smaller-in-None : goal.loop-t-smaller-in-None
-loop-t-smaller-in-None c = omega (arith, c.loop-next-test.false, c.loop-t-test.true)
 
 pub loop-t-preserved-in-None : goal.loop-t-preserved-in-None
 loop-t-preserved-in-None c =
@@ -136,12 +105,6 @@ left_of-rest-requires c =
           (pick (goal.at.left_of-rest-requires c).In-Some);
     }
 
-pub offset_bounds-d-i-in-Some : goal.offset_bounds-d-i-in-Some
-offset_bounds-d-i-in-Some c = omega (arith, its_place (goal.at.offset_bounds-d-i-in-Some c).In-Some)
-
-pub bounds-d-i-in-Some : goal.bounds-d-i-in-Some
-bounds-d-i-in-Some c = its_place (goal.at.bounds-d-i-in-Some c).In-Some
-
 pub go-g-requires : goal.go-g-requires
 go-g-requires c =
     let e = (goal.at.go-g-requires c).In-Some in
@@ -149,12 +112,6 @@ go-g-requires c =
     (ahead e)
     c.until-room.ensures
     c.min.ensures
-
-pub offset_bounds-d-i-in-Some-2 : goal.offset_bounds-d-i-in-Some-2
-offset_bounds-d-i-in-Some-2 c = omega (arith, its_place (goal.at.offset_bounds-d-i-in-Some-2 c).In-Some)
-
-pub bounds-d-i-in-Some-2 : goal.bounds-d-i-in-Some-2
-bounds-d-i-in-Some-2 c = its_place (goal.at.bounds-d-i-in-Some-2 c).In-Some
 
 -- Once the spell has gone.
 abbrev segments_after : After-later-t → SegmentBook
@@ -190,21 +147,5 @@ over l =
 pub go_on-requires : goal.go_on-requires
 go_on-requires c = (over (goal.at.go_on-requires c).After-later-t).may_go_on
 
-pub loop-t-smaller : goal.loop-t-smaller
-loop-t-smaller c = omega (arith, (over (goal.at.loop-t-smaller c).After-later-t).later, c.loop-t-test.true)
-
 pub loop-t-preserved : goal.loop-t-preserved
 loop-t-preserved c = (over (goal.at.loop-t-preserved c).After-later-t).keeps c.go_on.ensures
-
-pub shape_of-list : goal.shape_of-list
-shape_of-list c = list_long (its_fit c.requires) c.loop-t.invariant.travels
-
-pub shape_of-finishes : goal.shape_of-finishes
-shape_of-finishes c = finishes_long (its_fit c.requires) c.loop-t.invariant.travels
-
-pub returns : goal.returns
-returns c =
-    record {
-      moment_value = ap moment (le_antisymm c.loop-t.invariant.by c.loop-t-test.false);
-      travels = c.loop-t.invariant.travels;
-    }

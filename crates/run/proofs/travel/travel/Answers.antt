@@ -7,8 +7,6 @@ use native.Mathlib.Omega.{arith}
 use Rattle.books.proofs.Accepted.{arrivals_read, horizon_read, servers_read, fit_beside}
 use Rattle.books.proofs.Book.{lent_in, standing_at, Book, book, turns_of, job_book, segment_book}
 use Rattle.books.proofs.Jobs.FinishList.{finishes_again, finishes_length}
-use Rattle.books.proofs.Stretches.Turns.{bounded_end}
-use Rattle.books.proofs.Travel.BetweenEvents.{bounded}
 use Rattle.books.proofs.Travel.Travels.{Travels, travels_start}
 use Rattle.books.proofs.Travel.WholeRun.{list_whole, count_whole, finishes_whole, postponed_whole, interrupted_all}
 use Rattle.books.specs.declared.Standing.{Standing}
@@ -20,7 +18,6 @@ use Rattle.finish.specs.Finish.{is_open, finish_list}
 use Rattle.judgement.proofs.FitLaws.{Fit}
 use Rattle.sizes.specs.Sizes.{most_arrivals, most_servers}
 use Rattle.summary.specs.Summary.{finishes}
-use Rattle.trace.proofs.WrittenLaws.{written_length}
 use Rattle.trace.specs.Trace.{begun}
 use Rattle.workfile.specs.Work.{Work, work}
 use Rattle.run.proofs.travel.travel.Goals as goal
@@ -32,19 +29,12 @@ leaves_of-requires c = omega (arith, servers_read _ c.header_of-h.ensures, c.req
 pub open_all-requires : goal.open_all-requires
 open_all-requires c = omega (arith, arrivals_read _ c.header_of-h.ensures, c.requires.file_in_bounds)
 
-pub line_up-requires : goal.line_up-requires
-line_up-requires c =
+pub line_up-requires-clause-unlined : goal.line_up-requires-clause-unlined
+line_up-requires-clause-unlined c =
     record {
-      accepted = c.requires.accepted;
-      unlined =
-          record {
-            job_is = ap (replicate most_servers) (arrivals_read _ c.header_of-h.ensures);
-            places = length-replicate {A = ℕ} most_arrivals 0;
-          };
+      job_is = ap (replicate most_servers) (arrivals_read _ c.header_of-h.ensures);
+      places = length-replicate {A = ℕ} most_arrivals 0;
     }
-
-pub from_start-requires : goal.from_start-requires
-from_start-requires c = c.requires.accepted
 
 -- The work, the finish list as it was lent and behind `open_all`, and where the run stands at its start.
 abbrev its : After-from_start → Work
@@ -132,32 +122,12 @@ at_end : (m : After-to_moment-end) → (work m.args.file.now).horizon.tick ≤ m
 at_end m =
     omega (arith, horizon_read _ m.header_of-h.ensures, ap (λ (t : Moment). t.tick) m.to_moment-end.ensures.moment_value)
 
-pub end_segment-segments-requires : goal.end_segment-segments-requires
-end_segment-segments-requires c =
-    let p = (goal.at.end_segment-segments-requires c).After-from_start in
-    let m = (goal.at.end_segment-segments-requires c).After-to_moment-end in
-    bounded_end (bounded {b = left m} (fit p) (came m)) (omega arith)
-
 -- what a run writes over the open jobs
 again : (p : After-from_start)
     → finish_list (its p).arrivals (finishes (its p)) (opened p) ≡ finish_list (its p).arrivals (finishes (its p)) (ends p)
 again p =
     ap (finish_list (its p).arrivals (finishes (its p))) (all_open p)
     ∙ finishes_again (its p).arrivals (finishes (its p)) (λ k. is_open) (ends p)
-
-pub shape_of-list : goal.shape_of-list
-shape_of-list c =
-    let p = (goal.at.shape_of-list c).After-from_start in
-    let m = (goal.at.shape_of-list c).After-to_moment-end in
-    ap length (c.end_segment-segments.ensures.list_after ∙ list_whole {b = left m} (came m) (at_end m) (none_seen p))
-    ∙ written_length _ c.args.list.now
-
-pub shape_of-finishes : goal.shape_of-finishes
-shape_of-finishes c =
-    let p = (goal.at.shape_of-finishes c).After-from_start in
-    let m = (goal.at.shape_of-finishes c).After-to_moment-end in
-    ap length (finishes_whole {b = left m} (came m) (at_end m) ∙ again p)
-    ∙ finishes_length (its p).arrivals (ends p) (finishes (its p))
 
 pub returns : goal.returns
 returns c =

@@ -5,9 +5,6 @@ use native.Mathlib.Omega.{arith}
 use Rattle.books.proofs.Tree.Climb.{Below, one_up, root_reached, climb_goes_on, climb_over}
 use Rattle.run.proofs.tree.climb.Goals as goal
 
-pub loop-init : goal.loop-init
-loop-init c = record { climb = c.requires.climb; up = subst (Below c.args.from) (omega arith) c.requires.up }
-
 pub loop-preserved : goal.loop-preserved
 loop-preserved c =
     let loop = c.loop in

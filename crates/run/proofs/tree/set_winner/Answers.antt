@@ -1,23 +1,17 @@
 -- `run::tree::set_winner` meets its promise: with as many leaves as some doublings give, the climb has so many turns; else it goes up to the root.
-use Rattle.books.proofs.Tree.Climb.{doubled, climbs, climbs_doubled, climbed_set}
+use Rattle.books.proofs.Tree.Climb.{doubled, climbs_doubled, climbed_set}
 use Rattle.run.proofs.tree.set_winner.Goals as goal
 
 pub climb-requires : goal.climb-requires
 unfolding doubled
 climb-requires c = climbs_doubled c.requires c.leaf_of-at.ensures _ 6 c.in-64.is
 
-pub returns-in-64 : goal.returns-in-64
-returns-in-64 c = record { value = c.climb.ensures.root_is; set = climbed_set c.requires c.leaf_of-at.ensures _ c.climb.ensures }
+pub returns-in-64-clause-set : goal.returns-in-64-clause-set
+returns-in-64-clause-set c = climbed_set c.requires c.leaf_of-at.ensures _ c.climb.ensures
 
 pub climb-requires-in-16 : goal.climb-requires-in-16
 unfolding doubled
 climb-requires-in-16 c = climbs_doubled c.requires c.leaf_of-at.ensures _ 4 c.in-16.is
 
-pub returns-in-16 : goal.returns-in-16
-returns-in-16 c = record { value = c.climb-in-16.ensures.root_is; set = climbed_set c.requires c.leaf_of-at.ensures _ c.climb-in-16.ensures }
-
-pub climb_up-requires : goal.climb_up-requires
-climb_up-requires c = climbs c.requires c.leaf_of-at.ensures _
-
-pub returns-in_default : goal.returns-in_default
-returns-in_default c = record { value = c.climb_up.ensures.root_is; set = climbed_set c.requires c.leaf_of-at.ensures _ c.climb_up.ensures }
+pub returns-in-16-clause-set : goal.returns-in-16-clause-set
+returns-in-16-clause-set c = climbed_set c.requires c.leaf_of-at.ensures _ c.climb-in-16.ensures
