@@ -9,10 +9,11 @@ ghost use Rattle.workfile.specs.Work.{work_under};
 
 use arrival::Arrival;
 use booking::{Booking, Sheet};
-use clock::Length;
+use std::array;
 use workfile::{Block, Header, Record};
 
-// The booking of server k. Where its record lies behind the end every number counts 0.
+// The booking of server k. Where its record lies behind the end every number counts 0. (It and `arrival_of` stay two, thin over `nth`, since
+// their contracts say what kind stands in which block; and a file and its header stay two parameters, since `run`'s contracts name each.)
 pub fn booking_of(file: &[u8], h: Header, k: usize) -> Booking
     ensures { result ≡ (work_under h file.now).table.booking k }
 {
@@ -27,27 +28,17 @@ pub fn arrival_of(file: &[u8], h: Header, k: usize) -> Arrival
 }
 
 // The booking sheet of the table: its first 64 bookings.
-#[tactic(auto, using(counting::proofs::PlacesLaws::filled_none, counting::proofs::PlacesLaws::filled_whole))]
 pub fn sheet_of(file: &[u8], h: Header) -> Sheet
     ensures { result ≡ sheet_of h.frame (work_under h file.now).table }
 {
-    let blank = Booking {
-        budget: Length { ticks: 0 },
-        period: Length { ticks: 0 },
-    };
-    // `array::from_fn` is no plainer here: its closure would need a contract of its own, which says what `booking_of` promises.
-    let mut bookings = [blank; sizes::MOST_SERVERS];
-    for k in 0..sizes::MOST_SERVERS {
-        bookings[k] = booking_of(file, h, k);
-    }
     Sheet {
         frame: h.frame,
         count: h.servers.count,
-        bookings,
+        bookings: array::from_fn(|k| booking_of(file, h, k)),
     }
 }
 
-// Whether the server records go on beyond byte `at`.
+// Whether the server records go on beyond byte `at`. (This and the next stay two likewise.)
 pub fn bookings_beyond(h: Header, at: usize) -> bool
     ensures { result ≡ ltb at (h.servers.offset + server_bytes * h.servers.count) }
 {
