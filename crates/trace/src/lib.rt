@@ -22,6 +22,7 @@ pub fn write(list: &mut [u64], k: usize, s: Segment)
 {
     if k < list.len() / 4 {
         let at = 4 * k;
+        // A server's number is widened by `as`: there is no `From` between `usize` and `u64`.
         list[at..at + 4].copy_from_slice(&[
             s.start.tick,
             s.length.ticks,
