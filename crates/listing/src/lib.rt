@@ -9,11 +9,11 @@ ghost use Rattle.workfile.specs.Work.{work_under};
 
 use arrival::Arrival;
 use booking::{Booking, Sheet};
-use clock::Length;
 use std::array;
 use workfile::{Block, Header, Record};
 
-// The booking of server k. Where its record lies behind the end every number counts 0.
+// The booking of server k. Where its record lies behind the end every number counts 0. (It and `arrival_of` stay two, thin over `nth`, since
+// their contracts say what kind stands in which block; and a file and its header stay two parameters, since `run`'s contracts name each.)
 pub fn booking_of(file: &[u8], h: Header, k: usize) -> Booking
     ensures { result ≡ (work_under h file.now).table.booking k }
 {
@@ -38,7 +38,7 @@ pub fn sheet_of(file: &[u8], h: Header) -> Sheet
     }
 }
 
-// Whether the server records go on beyond byte `at`.
+// Whether the server records go on beyond byte `at`. (This and the next stay two likewise.)
 pub fn bookings_beyond(h: Header, at: usize) -> bool
     ensures { result ≡ ltb at (h.servers.offset + server_bytes * h.servers.count) }
 {
