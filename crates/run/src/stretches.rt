@@ -63,7 +63,7 @@ pub(crate) fn turn_to(
 fn goes_on(c: Current, i: usize, deadline: Moment) -> bool
     ensures { result ≡ stays c i deadline }
 {
-    c.server == i && c.deadline.tick == deadline.tick
+    c.server == i && c.deadline == deadline
 }
 
 // Server i has the next tick: one interruption more of the stretch's server, where it is interrupted by that.

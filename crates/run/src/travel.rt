@@ -91,9 +91,9 @@ fn to_moment(
     let mut next = reading::next_stop(file, until, j);
     // What the root of the tree holds: kept here, since it would take time to read what has just been stored there.
     let mut root = turns.tree.keys[1];
-    while t.tick < until.tick {
+    while t < until {
         let tree = &mut turns.tree;
-        while next.tick <= t.tick {
+        while next <= t {
             let a = reading::arrival_of(file, j);
             let i = a.server;
             d.servers[i] = taking::take(tree, i, d.servers[i], d.clock, a.cost);

@@ -9,7 +9,7 @@ use clock::Length;
 
 // How long the jobs of a server took that have finished. A mean is the total over their count. (Document 01 names this enum, so it is no
 // `Option` of a pair.)
-#[derive(Clone, Copy, Default)]
+#[derive(Clone, Copy, PartialEq, Eq, Default, Debug)]
 pub enum Response {
     #[default]
     Absent,
@@ -17,7 +17,7 @@ pub enum Response {
 }
 
 // The record of one server; by default a blank one.
-#[derive(Clone, Copy, Default)]
+#[derive(Clone, Copy, PartialEq, Eq, Default, Debug)]
 pub struct Summary {
     pub arrived: u64,
     pub finished: u64,

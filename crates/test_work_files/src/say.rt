@@ -34,7 +34,7 @@ pub(crate) fn list<T: Display + Copy>(rt: &impl Print, name: &str, list: &[T]) {
 // A line for each record that is not blank.
 pub(crate) fn servers(rt: &impl Print, records: &[Summary]) {
     for (i, &s) in records.iter().enumerate() {
-        if !is_blank(s) {
+        if s != Summary::default() {
             server(rt, i, s);
         }
     }
@@ -51,13 +51,4 @@ fn server(rt: &impl Print, i: usize, s: Summary) {
         }
     }
     let _ = println!(rt; " postponed {} interrupted {}", s.postponed, s.interrupted);
-}
-
-// Field by field, since the records of `summary` derive no `==`.
-fn is_blank(s: Summary) -> bool {
-    matches!(s.response, Response::Absent)
-        && s.arrived == 0
-        && s.finished == 0
-        && s.postponed == 0
-        && s.interrupted == 0
 }

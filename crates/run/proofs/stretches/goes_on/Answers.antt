@@ -6,7 +6,7 @@ use Rattle.run.proofs.stretches.goes_on.Goals as goal
 
 pub returns-then-c-i : goal.returns-then-c-i
 returns-then-c-i c =
-    let a = c.args in sym (stays_server a.c a.i a.deadline c.if-c-i.true)
+    let a = c.args in c.eq.ensures ∙ sym (stays_server a.c a.i a.deadline c.if-c-i.true)
 
 pub returns-else-c-i : goal.returns-else-c-i
 returns-else-c-i c =

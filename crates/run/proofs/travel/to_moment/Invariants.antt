@@ -13,13 +13,13 @@ invariant-loop-next l =
 abbrev pub decreases-loop-next : goal.decreases-loop-next
 decreases-loop-next l = (work l.file).arrivals - l.j
 
-abbrev pub invariant-loop-t : goal.invariant-loop-t
-invariant-loop-t l =
+abbrev pub invariant-loop-until : goal.invariant-loop-until
+invariant-loop-until l =
     OnTheWay (lent_in (work l.file) l.initial.t.tick l.initial.c l.initial.list l.initial.finishes) (here l.t.tick l.j l.d)
     (book l.turns (segment_book l.list l.c) (job_book l.lines l.finishes))
     l.until.tick
     l.next.tick
     l.root
 
-abbrev pub decreases-loop-t : goal.decreases-loop-t
-decreases-loop-t l = l.until.tick - l.t.tick
+abbrev pub decreases-loop-until : goal.decreases-loop-until
+decreases-loop-until l = l.until.tick - l.t.tick
