@@ -3,4 +3,4 @@ use Rattle.dispatcher.proofs.SofarLaws.{Sofar}
 use Rattle.dispatcher.proofs.picking.pick.Given as goal
 
 abbrev pub invariant-loop-i : goal.invariant-loop-i
-invariant-loop-i l = Sofar l.fn.d l.i l.best l.least.tick
+invariant-loop-i l = Sofar l.fn.d l.i l.best
