@@ -17,7 +17,7 @@ fn main(rt: HostRuntime) {
     play(&rt, &room[..length], letter(&rt));
 }
 
-// The ticks of a file, in the form that begins with a letter.
+// The ticks of a file, in the form that begins with a letter: two tests of it are plainer than an enum of three that is matched twice.
 fn play(rt: &impl Print, file: &[u8], letter: u8) {
     let start = work::start(file);
     let count = work::horizon(file);

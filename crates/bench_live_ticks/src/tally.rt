@@ -28,11 +28,13 @@ pub(crate) fn with(mut t: Tally, answer: Result<Turn, Refusal>) -> Tally
 {
     match answer {
         Ok(Turn::Idle) => t.idle += 1,
-        Ok(Turn::Ran {
-            server: _,
-            deadline: _,
-            postponed,
-        }) => {
+        Ok(
+            Turn::Ran {
+                server: _,
+                deadline: _,
+                postponed,
+            },
+        ) => {
             t.ran += 1;
             t.postponed += u64::from(postponed);
         }

@@ -25,7 +25,7 @@ pub(crate) fn start(file: &[u8]) -> Dispatcher
     take_arrivals(opened.dispatcher, file, h)
 }
 
-// The numbers of the server records in turn. Answers how many they are, and none where the list is too short.
+// The numbers of the server records in turn. Answers how many they are: where the list is too short it lays none.
 fn lay(table: &mut [u64], file: &[u8], h: Header) -> usize
     ensures { IsPrefixLen result table.new }
 {

@@ -37,7 +37,7 @@ pub fn admit(sheet: Sheet) -> Result<(), Refusal>
     foot_of(&sheet).map(|_| ())
 }
 
-// What the shares on a sheet leave of its frame; nothing where the table is not admitted.
+// What the shares on a sheet leave of its frame; nothing where the table is not admitted, by its promise.
 pub fn left_on(sheet: Sheet) -> Length
     ensures { result ≡ left_of sheet.frame (table_on sheet) }
 {

@@ -28,7 +28,8 @@ pub struct WinnerTree {
     pub keys: [u64; 128],
 }
 
-// What a run keeps of its turns: the winner tree, and how often each server was postponed and interrupted.
+// What a run keeps of its turns: the winner tree, and how often each server was postponed and interrupted. (Two lists of counts, here and in
+// `Travelled`, as `records::of_run` takes them.)
 #[derive(Drop)]
 pub struct Turns {
     pub tree: WinnerTree,
@@ -36,7 +37,7 @@ pub struct Turns {
     pub interrupted: [u64; sizes::MOST_SERVERS],
 }
 
-// What a run keeps of its jobs: which of them each server serves, what is left of that one, and the job behind each. Where there is none
+// What a run keeps of its jobs, in fixed memory: which of them each server serves, what is left of that one, and the job behind each. Where there is none
 // it is the count of all arrivals, and no Option: only a server that has a job is asked for it, so that nobody asks whether there is one.
 #[derive(Drop)]
 pub struct JobLines {

@@ -7,7 +7,8 @@ use std::io::Read;
 pub(crate) fn read_full<R: Read>(input: &mut R, room: &mut [u8]) -> usize
     ensures { IsPrefixLen result room.new }
 {
-    // Of the library only `read_exact` needs no heap, and it tells no count where the input ends. No `for`: a turn goes on by what was read.
+    // A `while`: `read_exact` tells no count where the input ends first, nor `io::copy` where a read fails. It stands in three programs, since a
+    // crate of it would have a public function with no law of one outcome.
     let mut done = 0;
     while done < room.len() {
         match input.read(&mut room[done..]) {
@@ -18,7 +19,8 @@ pub(crate) fn read_full<R: Read>(input: &mut R, room: &mut [u8]) -> usize
     done
 }
 
-// Whether the input is at its end: a read that stopped early may also have failed, and then the next one does not answer 0.
+// Whether the input is at its end: a read that stopped early may also have failed, and then the next one does not answer 0. (No Result of
+// the read in its place: where a read fails and the next one answers 0, the report is written, as ever.)
 pub(crate) fn is_ended<R: Read>(input: &mut R) -> bool {
     let mut more = [0u8; 1];
     matches!(input.read(&mut more), Ok(0))

@@ -1,6 +1,7 @@
 // The dispatcher: the servers of one node and its clock, and the two moves that change them, an arrival and a tick.
 // A move takes the dispatcher by value and hands it back. Its one premise, `Within`, is ranges of the dispatcher's numbers: every
-// opening hands out a dispatcher within them and every move keeps it there, so that a caller has nothing to check.
+// opening hands out a dispatcher within them and every move keeps it there, so that a caller has nothing to check. It is a premise, as document
+// 01 has it, and no invariant of the type.
 #![tactic(auto)]
 
 mod picking;
@@ -24,7 +25,7 @@ use std::array;
 pub struct Dispatcher {
     // H
     pub frame: Length,
-    // n, how many of the places hold a server
+    // n, how many of the places hold a server: the memory is fixed
     pub count: usize,
     pub clock: Moment,
     pub servers: [Server; sizes::MOST_SERVERS],

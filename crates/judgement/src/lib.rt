@@ -26,8 +26,11 @@ pub fn judge(file: &[u8], places: usize) -> Result<(), Refusal>
     if is_layout_broken(h, bytes) {
         return Err(Refusal::Layout);
     }
-    booking::admit(listing::sheet_of(file, h))?;
-    judge_arrivals(file, h, places)
+    // A `match` and no `?`: the edit `other_faulty_server` spoils the refusal alone.
+    match booking::admit(listing::sheet_of(file, h)) {
+        Ok(()) => judge_arrivals(file, h, places),
+        Err(why) => Err(why),
+    }
 }
 
 // The arrivals in order, each by 6, 7, 8, then 9.

@@ -13,7 +13,7 @@ use std::array;
 use workfile::{Block, Header, Record};
 
 // The booking of server k. Where its record lies behind the end every number counts 0. (It and `arrival_of` stay two, thin over `nth`, since
-// their contracts say what kind stands in which block; and a file and its header stay two parameters, since `run`'s contracts name each.)
+// their contracts say what kind stands in which block; and a file and a header stay two parameters: this is promised of any header.)
 pub fn booking_of(file: &[u8], h: Header, k: usize) -> Booking
     ensures { result ≡ (work_under h file.now).table.booking k }
 {

@@ -72,18 +72,12 @@ fn booking_at(table: &[u64], k: usize) -> Booking
 {
     Booking {
         budget: Length {
-            ticks: number_at(table, 2 * k),
+            ticks: table.get(2 * k).copied().unwrap_or(0),
         },
         period: Length {
-            ticks: number_at(table, 2 * k + 1),
+            ticks: table.get(2 * k + 1).copied().unwrap_or(0),
         },
     }
-}
-
-fn number_at(table: &[u64], at: usize) -> u64
-    ensures { result ≡ get_or table.now at 0 }
-{
-    table.get(at).copied().unwrap_or(0)
 }
 
 // What a refused opening hands back.

@@ -15,7 +15,7 @@ use clock::{Length, Moment};
 use summary::{Response, Summary};
 use workfile::Header;
 
-// The records that a file, a finish list and the counts of each server tell.
+// The records that a file, a finish list and the counts of each server tell. (Two lists of counts, as `records_of` takes them.)
 pub fn of_run(
     file: &[u8],
     finishes: &[u32],
@@ -58,7 +58,7 @@ fn of_arrivals(
     records
 }
 
-// What the list has for job k; one that has no place in it is open.
+// What the list has for job k; one that has no place in it is open. (By a number: the list that a run leaves has numbers alone.)
 fn finish_in(finishes: &[u32], k: usize) -> u32
     ensures { result ≡ get_or finishes.now k open_job }
 {

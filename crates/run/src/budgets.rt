@@ -1,4 +1,6 @@
-// Whole budgets in one go: a server that has just been postponed and still wins goes on with the next budget.
+// Whole budgets in one go: a server that has just been postponed and still wins goes on with the next budget. A moment, a server's number and
+// the server stay three parameters, since each of the laws in the contracts is of some of them and of others beside. (Numbers of type usize are
+// widened by `as`, here and in the whole crate: there is no `From`.)
 ghost use Rattle.std.specs.Prelude.{◌≡◌, suc, ◌+◌, ◌*◌, ◌≤◌, ◌<◌};
 ghost use Rattle.books.proofs.Book.{segment_book};
 ghost use Rattle.books.proofs.Budgets.Budgets.{Able, Budgets, BudgetsFrom, Further, budgets_on, turned_on};
@@ -69,7 +71,7 @@ pub(crate) fn budgets_on(s: Server, n: u64) -> Server
     }
 }
 
-// A length so many times.
+// A length so many times: a function of its own, as `less` is, for its premise.
 pub(crate) fn times(n: u64, one: Length) -> Length
     requires { n * one.ticks ≤ last_tick }
     ensures { result ≡ ticks (n * one.ticks) }

@@ -11,7 +11,7 @@ use crate::reading;
 use books::JobLines;
 use clock::{Length, Moment};
 
-// Every job is open at the start.
+// Every job is open at the start. (The list holds that as a number, by the promise of `run`.)
 pub(crate) fn open_all(finishes: &mut [u32], m: usize)
     requires { m ≤ length finishes.old }
     ensures { finishes.new ≡ finish_list m (λ k. is_open) finishes.old }

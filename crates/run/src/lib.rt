@@ -24,6 +24,7 @@ ghost use Rattle.run.specs.Outcome.{accepted_run, outcome, run_says};
 use refusal::Refusal;
 use summary::Summary;
 
+// A refused run has blank records and no segments (document 01), and so a verdict beside them.
 #[derive(Clone, Copy)]
 pub struct Ran {
     pub verdict: Result<(), Refusal>,

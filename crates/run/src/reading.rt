@@ -25,10 +25,7 @@ pub(crate) fn next_stop(file: &[u8], until: Moment, j: usize) -> Moment
 {
     let h = workfile::header_of(file);
     if j < h.arrivals.count {
-        let a = listing::arrival_of(file, h, j);
-        Moment {
-            tick: a.moment.tick.min(until.tick),
-        }
+        listing::arrival_of(file, h, j).moment.min(until)
     } else {
         until
     }

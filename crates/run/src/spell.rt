@@ -45,9 +45,7 @@ fn plan(tree: &WinnerTree, i: usize, s: Server, most: Length) -> PlannedSpell
     requires { MayPlan tree.now i s most.ticks }
     ensures { Planned tree.now i s most.ticks result }
 {
-    let ticks = Length {
-        ticks: s.remaining.ticks.min(most.ticks),
-    };
+    let ticks = s.remaining.min(most);
     let after = serving::serve(s, ticks);
     let spare = serving::less(most, ticks);
     let budgets = budgets::further(tree, i, after, spare);

@@ -1,5 +1,5 @@
 // The stretch that a run is in: it goes on, or it ends and another begins. No struct holds the lent list beside it: each contract would have
-// to say as well that it still holds the list that was lent.
+// to say as well that it still holds the list that was lent. Each premise is of the stretch and the moment together, and so of no type.
 ghost use Rattle.std.specs.Prelude.{◌≡◌, ◌<◌, get_or};
 ghost use Rattle.books.proofs.Book.{segment_book};
 ghost use Rattle.books.proofs.Stretches.Interruptions.{interruptions_after};

@@ -91,6 +91,7 @@ fn to_moment(
     let mut next = reading::next_stop(file, until, j);
     // What the root of the tree holds: kept here, since it would take time to read what has just been stored there.
     let mut root = turns.tree.keys[1];
+    // How far a turn goes is told by what happens then, and by no count.
     while t < until {
         let tree = &mut turns.tree;
         while next <= t {
@@ -110,10 +111,7 @@ fn to_moment(
             Some(i) => {
                 let rest = jobs::left_of(file, lines, i);
                 let room = clock::until(t, next);
-                let most = Length {
-                    ticks: rest.ticks.min(room.ticks),
-                };
-                let g = spell::go(list, turns, c, t, i, d.servers[i], most);
+                let g = spell::go(list, turns, c, t, i, d.servers[i], rest.min(room));
                 c = g.current;
                 root = g.root;
                 d.servers[i] = g.server;

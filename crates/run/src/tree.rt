@@ -1,5 +1,6 @@
-// Keys are set in the winner tree, and the least of some are told. These are functions and no methods, since a type's methods stand in its
-// crate, and `books` has no code.
+// Keys are set in the winner tree, and the least of some are told. These are functions and no methods: a method would be a public
+// function of `books`, and the edit `old_key_left_above` of this crate could not spoil it. What each may ask of the tree stands in its contract
+// and in no ghost field, as it does not hold while a key is being changed.
 ghost use Rattle.std.specs.Prelude.{◌≡◌, ◌+◌, ◌≤◌, ◌<◌};
 ghost use Rattle.books.proofs.Tree.Climb.{Climb, Climbed, Climbs};
 ghost use Rattle.books.proofs.Tree.Winners.{Beside, Enough, Leaf, Rival, Set, root_of};
@@ -57,6 +58,7 @@ fn climb_up(tree: &mut WinnerTree, from: usize, key: u64) -> u64
 {
     let mut at = from;
     let mut least = key;
+    // A `while`, here and in `rival`: the place is halved at each turn.
     while at > 1 {
         let above = at / 2;
         least = least.min(tree.keys[sibling(at)]);

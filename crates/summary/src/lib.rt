@@ -27,7 +27,7 @@ pub struct Summary {
 }
 
 // Whether a segment is interrupted that ends with so much work of its server waiting, where server `next` has the very next tick: that is
-// another server, and there is work. A number from 64 on is nobody's, as of an idle tick.
+// another server, and there is work. A number from 64 on is nobody's, as of an idle tick: its promise has it for all numbers.
 pub fn interrupted_by(server: usize, waits: Length, next: usize) -> bool
     ensures { result ≡ (ltb server most_servers && ltb next most_servers && ltb 0 waits.ticks && not (eqb server next)) }
 {

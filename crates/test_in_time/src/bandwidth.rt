@@ -1,4 +1,5 @@
-// What is left of a server's bandwidth. Whoever asks knows by demand 3 that what the server got is within it.
+// What is left of a server's bandwidth. Whoever asks knows by demand 3 that what the server got is within it. That, and what else demand 3
+// says, is the premise of each function that relies on it, and of no type: the program is there to show where it is met.
 ghost use Rattle.std.specs.Prelude.{◌*◌, ◌≡◌};
 ghost use Rattle.clock.specs.Clock.{until};
 ghost use Rattle.demand_3.specs.Got.{is_under};

@@ -53,7 +53,7 @@ fn line(rt: &impl Print, start: Dispatcher, i: usize, to: Moment)
     }
 }
 
-// Q and T of a server.
+// Q and T of a server. (No `From`: both types are another crate's.)
 fn booking_of(s: Server) -> Booking
     ensures { result ≡ booking_of s }
 {
@@ -96,11 +96,13 @@ fn with(got: u64, w: Window, answer: Result<Turn, Refusal>) -> u64
 {
     match answer {
         Ok(Turn::Idle) => got,
-        Ok(Turn::Ran {
-            server,
-            deadline,
-            postponed: _,
-        }) => got + u64::from(bandwidth::counts(w, server, deadline)),
+        Ok(
+            Turn::Ran {
+                server,
+                deadline,
+                postponed: _,
+            },
+        ) => got + u64::from(bandwidth::counts(w, server, deadline)),
         Err(_) => got,
     }
 }

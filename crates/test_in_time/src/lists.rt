@@ -64,7 +64,7 @@ fn is_idle(file: &[u8], finishes: &[u32], w: Window) -> bool
     true
 }
 
-// Whether a job is another server's, or arrives no earlier than the window starts, or has finished by then.
+// Whether a job (for which the list has a number, an open one's is the largest) is another server's, or arrives no earlier than the window starts, or has finished by then.
 fn is_done(w: Window, job: Arrival, finish: u32) -> bool
     ensures { result ≡ is_done w job finish }
 {

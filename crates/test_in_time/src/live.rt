@@ -63,11 +63,13 @@ fn tick(rt: &impl Print, d: Dispatcher) -> Dispatcher
     let t = dispatcher::tick(d);
     let answer = t.answer;
     let after = t.dispatcher;
-    if let Ok(Turn::Ran {
-        server,
-        deadline,
-        postponed,
-    }) = answer
+    if let Ok(
+        Turn::Ran {
+            server,
+            deadline,
+            postponed,
+        },
+    ) = answer
     {
         say::tick(rt, server, deadline, left(after.clock, deadline));
     }

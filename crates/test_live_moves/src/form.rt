@@ -21,6 +21,7 @@ pub(crate) trait Form {
         ensures within { Within d.new };
 }
 
+// As `live_loop` does it: its moves are what this is compared with.
 pub(crate) struct ByValue;
 
 impl Form for ByValue {

@@ -40,11 +40,13 @@ pub(crate) fn tick(rt: &impl Print, now: Moment, answer: Result<Turn, Refusal>, 
     let _ = print!(rt; "at {} tick: ", now.tick);
     match answer {
         Ok(Turn::Idle) => line(rt, "idle"),
-        Ok(Turn::Ran {
-            server,
-            deadline,
-            postponed,
-        }) => ran(rt, server, deadline, postponed),
+        Ok(
+            Turn::Ran {
+                server,
+                deadline,
+                postponed,
+            },
+        ) => ran(rt, server, deadline, postponed),
         Err(why) => refused(rt, why),
     }
 }

@@ -7,7 +7,8 @@ use std::io::Read;
 pub(crate) fn read_full<R: Read>(input: &mut R, room: &mut [u8]) -> usize
     ensures { IsPrefixLen result room.new }
 {
-    // Of the library only `read_exact` needs no heap, and it tells no count where the input ends. No `for`: a turn goes on by what was read.
+    // A `while`: `read_exact` tells no count where the input ends first, nor `io::copy` where a read fails. It stands in three programs, since a
+    // crate of it would have a public function with no law of one outcome.
     let mut done = 0;
     while done < room.len() {
         match input.read(&mut room[done..]) {

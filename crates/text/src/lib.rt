@@ -33,7 +33,7 @@ pub fn add_number(text: &mut Page<'_, u8>, n: u64)
     text.add(last_digit(n));
 }
 
-// The last digit of a number, as a byte.
+// The last digit of a number, as a byte. (By `as`: the digit fits, which `try_from` would test again.)
 fn last_digit(n: u64) -> u8
     ensures { result ≡ digit (n % 10) }
 {

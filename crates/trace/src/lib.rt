@@ -15,7 +15,8 @@ pub struct Segment {
     pub deadline: Moment,
 }
 
-// Segment k in its four places of the list, where it has them all; where it has not, no place changes.
+// Segment k in its four places of the list, where it has them all; where it has not, no place changes. (Document 01 lends a list of numbers,
+// four to a segment.)
 #[tactic(auto, using(crate::proofs::WrittenLaws::put_laid, crate::proofs::WrittenLaws::put_short))]
 pub fn write(list: &mut [u64], k: usize, s: Segment)
     ensures { list.new ≡ put k s list.old }

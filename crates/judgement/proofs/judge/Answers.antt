@@ -41,23 +41,22 @@ table_says : (file : List ℕ) (h : Header) {said : Said (Unit {0})} {sheet : Sh
 table_says file h says read range =
     says ∙ sheet_admission (work_under h file).frame (work_under h file).table (sized h range).servers read
 
-pub returns : goal.returns
-returns c =
+pub returns-in-Ok : goal.returns-in-Ok
+returns-in-Ok c =
     let range = sym c.is_size_out_of_range.ensures ∙ c.if-is_size_out_of_range.false in
     let judged_so =
     judged_work c.args.file.now c.args.places c.header_of-h.ensures (sym c.is_length_out_of_range.ensures ∙ c.if-is_length_out_of_range.false)
     range
     (sym c.is_layout_broken.ensures ∙ c.if-is_layout_broken.false) in
     let says = table_says c.args.file.now c.header_of-h.result c.admit.ensures c.sheet_of.ensures range in
-    c.judge_arrivals.ensures ∙ sym (judged_so ∙ work_admitted _ _ (sym says ∙ ap on_paper c.in_ok-admit.was))
+    c.judge_arrivals.ensures ∙ sym (judged_so ∙ work_admitted _ _ (sym says ∙ ap on_paper c.in-Ok.is))
 
-pub returns-in_err-admit : goal.returns-in_err-admit
-returns-in_err-admit c =
+pub returns-in-Err : goal.returns-in-Err
+returns-in-Err c =
     let range = sym c.is_size_out_of_range.ensures ∙ c.if-is_size_out_of_range.false in
     let judged_so =
     judged_work c.args.file.now c.args.places c.header_of-h.ensures (sym c.is_length_out_of_range.ensures ∙ c.if-is_length_out_of_range.false)
     range
     (sym c.is_layout_broken.ensures ∙ c.if-is_layout_broken.false) in
     let says = table_says c.args.file.now c.header_of-h.result c.admit.ensures c.sheet_of.ensures range in
-    let same : c.from_residual.result ≡ Err c.in_err-admit.field-0.0 = search rules in
-    ap on_paper same ∙ sym (judged_so ∙ work_refused _ _ _ _ (sym says ∙ ap on_paper c.in_err-admit.was))
+    sym (judged_so ∙ work_refused _ _ _ _ (sym says ∙ ap on_paper c.in-Err.is))

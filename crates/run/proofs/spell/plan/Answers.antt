@@ -8,6 +8,7 @@ use Rattle.books.specs.declared.WinnerTree.{WinnerTree}
 use Rattle.clock.specs.Clock.{last_tick, ticks}
 use Rattle.clock.specs.declared.Length.{Length}
 use Rattle.server.specs.declared.Server.{Server}
+use Rattle.clock.proofs.OrderLaws.{shorter_is}
 use Rattle.run.proofs.spell.plan.Goals as goal
 
 ticks_are : {l : Length} {n : ℕ} → l ≡ ticks n → l.ticks ≡ n
@@ -21,20 +22,20 @@ pub further-budgets-requires : goal.further-budgets-requires
 further-budgets-requires c =
     record {
       leaf = c.requires.leaf;
-      able = after_able c.requires c.min.ensures c.serve-after.ensures (ticks_are c.less-spare.ensures);
+      able = after_able c.requires (ticks_are (c.min-ticks.ensures ∙ shorter_is _ _)) c.serve-after.ensures (ticks_are c.less-spare.ensures);
     }
 
 pub key_of-requires : goal.key_of-requires
 key_of-requires c =
     let a = c.args in
     subst (λ (x : Server). x.deadline.tick * 64 + a.i ≤ last_tick) (budgets_none c.serve-after.result)
-    (last_key c.requires c.min.ensures c.serve-after.ensures (ticks_are c.less-spare.ensures)
+    (last_key c.requires (ticks_are (c.min-ticks.ensures ∙ shorter_is _ _)) c.serve-after.ensures (ticks_are c.less-spare.ensures)
     (none a.tree.now a.i c.serve-after.result c.less-spare.result.ticks c.further-budgets.ensures c.if-budgets-eq0.true))
 
 pub returns-then-budgets-eq0 : goal.returns-then-budgets-eq0
 returns-then-budgets-eq0 c =
     let a = c.args in
-    planned c.requires c.min.ensures c.serve-after.ensures (ticks_are c.less-spare.ensures)
+    planned c.requires (ticks_are (c.min-ticks.ensures ∙ shorter_is _ _)) c.serve-after.ensures (ticks_are c.less-spare.ensures)
     (none a.tree.now a.i c.serve-after.result c.less-spare.result.ticks c.further-budgets.ensures c.if-budgets-eq0.true)
     (sym (budgets_none c.serve-after.result))
     c.key_of.ensures
@@ -43,38 +44,38 @@ returns-then-budgets-eq0 c =
 
 pub budgets_on-last-requires : goal.budgets_on-last-requires
 budgets_on-last-requires c =
-    further_budgets c.requires c.min.ensures c.serve-after.ensures (ticks_are c.less-spare.ensures) c.further-budgets.ensures
+    further_budgets c.requires (ticks_are (c.min-ticks.ensures ∙ shorter_is _ _)) c.serve-after.ensures (ticks_are c.less-spare.ensures) c.further-budgets.ensures
 
 pub key_of-requires-2 : goal.key_of-requires-2
 key_of-requires-2 c =
     subst⁻¹ (λ (x : Server). x.deadline.tick * 64 + c.args.i ≤ last_tick) c.budgets_on-last.ensures
-    (last_key c.requires c.min.ensures c.serve-after.ensures (ticks_are c.less-spare.ensures) c.further-budgets.ensures)
+    (last_key c.requires (ticks_are (c.min-ticks.ensures ∙ shorter_is _ _)) c.serve-after.ensures (ticks_are c.less-spare.ensures) c.further-budgets.ensures)
 
 pub overflow_mul-result : goal.overflow_mul-result
 overflow_mul-result c =
     omega (
       arith,
-      gone_few c.requires c.min.ensures c.serve-after.ensures (ticks_are c.less-spare.ensures) c.further-budgets.ensures,
+      gone_few c.requires (ticks_are (c.min-ticks.ensures ∙ shorter_is _ _)) c.serve-after.ensures (ticks_are c.less-spare.ensures) c.further-budgets.ensures,
     )
 
 pub overflow_add-result : goal.overflow_add-result
 overflow_add-result c =
     omega (
       arith,
-      gone_few c.requires c.min.ensures c.serve-after.ensures (ticks_are c.less-spare.ensures) c.further-budgets.ensures,
+      gone_few c.requires (ticks_are (c.min-ticks.ensures ∙ shorter_is _ _)) c.serve-after.ensures (ticks_are c.less-spare.ensures) c.further-budgets.ensures,
     )
 
 pub overflow_add-result-2 : goal.overflow_add-result-2
 overflow_add-result-2 c =
     omega (
       arith,
-      spent_once c.min.result c.args.s.remaining.ticks (c.from-spent.ensures ∙ spent_number _),
-      further_few c.requires c.min.ensures c.serve-after.ensures (ticks_are c.less-spare.ensures) c.further-budgets.ensures,
+      spent_once c.min-ticks.result.ticks c.args.s.remaining.ticks (c.from-spent.ensures ∙ spent_number _),
+      further_few c.requires (ticks_are (c.min-ticks.ensures ∙ shorter_is _ _)) c.serve-after.ensures (ticks_are c.less-spare.ensures) c.further-budgets.ensures,
     )
 
 pub returns : goal.returns
 returns c =
-    planned c.requires c.min.ensures c.serve-after.ensures (ticks_are c.less-spare.ensures) c.further-budgets.ensures
+    planned c.requires (ticks_are (c.min-ticks.ensures ∙ shorter_is _ _)) c.serve-after.ensures (ticks_are c.less-spare.ensures) c.further-budgets.ensures
     c.budgets_on-last.ensures
     c.key_of-2.ensures
     (omega arith)

@@ -12,7 +12,8 @@ use Rattle.books.proofs.Travel.ArrivalTaken.{Takes, takes, due_here, due_now, ta
 use Rattle.books.proofs.Travel.BetweenEvents.{Ahead, stop_ahead, root_pick}
 use Rattle.books.proofs.Travel.IdleTime.{idled_on}
 use Rattle.books.proofs.Travel.Travels.{MayTravel, travels_taking}
-use Rattle.clock.proofs.OrderLaws.{less, not_less, at_most, not_at_most}
+use Rattle.clock.proofs.OrderLaws.{less, not_less, at_most, not_at_most, shorter_is}
+use Rattle.clock.specs.declared.Length.{Length}
 use Rattle.clock.specs.declared.Moment.{Moment}
 use Rattle.dispatcher.specs.Pick.{Earliest}
 use Rattle.judgement.proofs.FitLaws.{Fit}
@@ -113,7 +114,7 @@ go-g-requires c =
     may_go (its_fit c.requires) (travels_taking c.loop-until.invariant.travels c.loop-next.invariant) (pick e) c.left_of-rest.ensures
     (ahead e)
     c.until-room.ensures
-    c.min.ensures
+    (ap (λ (x : Length). x.ticks) (c.min.ensures ∙ shorter_is _ _))
 
 -- Once the spell has gone.
 abbrev segments_after : After-later-t → SegmentBook
@@ -139,7 +140,7 @@ over l =
     spell_over fit v (subst⁻¹ (Earliest d d.count) is.1 (root_pick fit v l.loop-next.root g.root_is is.0)) l.left_of-rest.ensures
     (stop_ahead fit g.next_is (not_at_most l.le.ensures l.loop-next-test.false) l.requires.in_time)
     l.until-room.ensures
-    l.min.ensures
+    (ap (λ (x : Length). x.ticks) (l.min.ensures ∙ shorter_is _ _))
     {segments = segments_after l}
     l.go-g.ensures
     l.requires.long
