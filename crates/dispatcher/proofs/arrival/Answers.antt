@@ -12,7 +12,7 @@ use Rattle.dispatcher.specs.Pick.{server_at}
 use Rattle.dispatcher.specs.Within.{Within}
 use Rattle.arrival.proofs.ArrivalLaws.{sound}
 use Rattle.server.specs.Ranges.{Ranged}
-use Rattle.sizes.specs.Sizes.{most_servers, most_waiting}
+use Rattle.sizes.specs.Sizes.{most_waiting}
 use Rattle.steps.proofs.StepLaws.{arrival_ranged}
 use Rattle.dispatcher.proofs.MoveLaws.{arrival_faulty, arrival_too_much, arrival_whole, arrival_within, and_within}
 use Rattle.dispatcher.proofs.arrival.Goals as goal
@@ -24,9 +24,6 @@ module _ (d : Dispatcher) (ok : Within d) (i : ℕ) (cost : Length) {test : Bool
 
   known : i < d.count
   known = (sound d.count i cost no_fault).known
-
-  below : i < most_servers
-  below = omega (arith, known, ok.count)
 
   module _ (s : Server) (read : s ≡ server_at d i) where
     ranged : Ranged d.clock s
@@ -43,13 +40,6 @@ returns-then-is_faulty c =
     (sym (arrival_faulty _ _ _ (sym c.is_faulty.ensures ∙ c.if-is_faulty.true))) in
     record { result_value = both.0; within = both.1 }
 
-pub bounds-d-server : goal.bounds-d-server
-bounds-d-server c = below c.args.d c.requires c.args.server c.args.cost c.is_faulty.ensures c.if-is_faulty.false
-
-pub overflow_sub-s : goal.overflow_sub-s
-overflow_sub-s c =
-    (ranged c.args.d c.requires c.args.server c.args.cost c.is_faulty.ensures c.if-is_faulty.false _ refl).waiting
-
 pub returns-then-s-cost : goal.returns-then-s-cost
 returns-then-s-cost c =
     let a = c.args in
@@ -61,9 +51,6 @@ returns-then-s-cost c =
     (arrival_too_much a.d a.server a.cost fault
     (omega (arith, c.if-s-cost.true, here.waiting)))) in
     record { result_value = both.0; within = both.1 }
-
-pub bounds-d-server-2 : goal.bounds-d-server-2
-bounds-d-server-2 c = below c.args.d c.requires c.args.server c.args.cost c.is_faulty.ensures c.if-is_faulty.false
 
 pub returns : goal.returns
 returns c =

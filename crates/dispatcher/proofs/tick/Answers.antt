@@ -2,7 +2,7 @@
 -- the ranges.
 use mathlib.Core.Path.{sym, ◌∙◌}
 use native.Mathlib.Omega.{arith}
-use Rattle.dispatcher.proofs.MoveLaws.{tick_ended, tick_ran, tick_idle, before_end, tick_within, and_within}
+use Rattle.dispatcher.proofs.MoveLaws.{tick_ended, tick_ran, tick_idle, tick_within, and_within}
 use Rattle.dispatcher.proofs.PickLaws.{earliest_picked, none_picked}
 use Rattle.dispatcher.proofs.tick.Goals as goal
 
@@ -10,10 +10,6 @@ pub returns-then-d-eq-CLOCK_END : goal.returns-then-d-eq-CLOCK_END
 returns-then-d-eq-CLOCK_END c =
     let both = and_within (tick_within c.requires) (sym (tick_ended _ c.if-d-eq-CLOCK_END.true)) in
     record { result_value = both.0; within = both.1 }
-
-pub run-requires : goal.run-requires
-run-requires c =
-    record { within = (c.requires, c.in-Some.ensures); tick_lt_clock_end = before_end c.requires c.if-d-eq-CLOCK_END.false }
 
 pub returns-in-Some : goal.returns-in-Some
 returns-in-Some c =
@@ -23,9 +19,6 @@ returns-in-Some c =
     and_within (tick_within c.requires)
     (c.run.ensures ∙ rw (sym picks) (sym (tick_ran _ c.if-d-eq-CLOCK_END.false (omega (arith, picks, first.among))))) in
     record { result_value = both.0; within = both.1 }
-
-pub pass-requires : goal.pass-requires
-pass-requires c = before_end c.requires c.if-d-eq-CLOCK_END.false
 
 pub returns-in-None : goal.returns-in-None
 returns-in-None c =

@@ -28,9 +28,5 @@ taken_off file {h} {sheet} {left} fine read made is =
       admitted_left (work file).frame (work file).table fine.fit.admitted,
     )
 
-pub overflow_sub-result : goal.overflow_sub-result
-overflow_sub-result c =
-    omega (arith, taken_off c.args.file.now c.requires c.header_of-h.ensures c.sheet_of.ensures c.left_on-left.ensures)
-
 pub returns : goal.returns
 returns c = omega (arith, taken_off c.args.file.now c.requires c.header_of-h.ensures c.sheet_of.ensures c.left_on-left.ensures)

@@ -17,9 +17,6 @@ returns-in_default c =
     ∙ made _ refl c.blank_records.ensures refl refl
     ∙ sym (outcome_refused _ _ _ (sym c.judge-verdict.ensures ∙ ap on_paper told))
 
-pub play-requires : goal.play-requires
-play-requires c = sym c.judge-verdict.ensures ∙ ap on_paper c.in-Ok.is
-
 pub returns : goal.returns
 returns c =
     c.play.ensures

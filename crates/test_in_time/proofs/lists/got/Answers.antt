@@ -19,11 +19,6 @@ pub loop-k-init : goal.loop-k-init
 unfolding sum
 loop-k-init c = refl
 
-pub got_of-sum-requires : goal.got_of-sum-requires
-got_of-sum-requires c =
-    subst⁻¹ InTime c.segment_at-s.ensures
-    (c.requires.all_in_time _ (omega (arith, c.loop-k-test.true, c.held-held.ensures)))
-
 pub overflow_add-sum : goal.overflow_add-sum
 overflow_add-sum c =
     let f = each c.args.w c.args.list.now in
@@ -36,9 +31,3 @@ pub loop-k-preserved : goal.loop-k-preserved
 loop-k-preserved c =
     let one = c.got_of-sum.ensures ∙ ap (got_of c.args.w) c.segment_at-s.ensures in
     sum_next (each c.args.w c.args.list.now) c.loop-k.invariant one
-
-pub returns : goal.returns
-returns c =
-    c.loop-k.invariant
-    ∙ ap (λ (n : ℕ). sum n (each c.args.w c.args.list.now))
-    (omega (arith, c.loop-k-test.false, c.held-held.ensures))
