@@ -1,5 +1,4 @@
-// The arrivals of an accepted file, read where they lie. No struct holds that the file was accepted: in a ghost field the fact would stand
-// truncated, and each proof that uses it would have to open it.
+// The arrivals of an accepted file, read where they lie.
 ghost use Rattle.std.specs.Prelude.{◌≡◌, ◌<◌};
 ghost use Rattle.books.proofs.Accepted.{Accepted, next_stop};
 ghost use Rattle.clock.specs.Clock.{moment};
