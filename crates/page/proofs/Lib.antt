@@ -1,3 +1,4 @@
 pub mod EachLaws
+pub mod InEveryModel
 pub mod PageLaws
 pub mod Promises

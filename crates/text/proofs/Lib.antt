@@ -1,3 +1,4 @@
+pub mod InEveryModel
 pub mod LengthLaws
 pub mod LineLaws
 pub mod Promises
