@@ -26,11 +26,11 @@ returns-in-len2 c =
     let fourth = get_or-eq_default rest 0 {n = 3} (omega arith) in
     omega (arith, word_of_rest c.args.file.now c.args.at c.in-Some.ensures.lookup.0.2)
 
-pub returns-in-len3 : goal.returns-in-len3
-returns-in-len3 c =
-    let rest = c.in-Some.rest.now in
-    let fourth = get_or-eq_default rest 0 {n = 3} (omega arith) in
-    omega (arith, word_of_rest c.args.file.now c.args.at c.in-Some.ensures.lookup.0.2)
-
 pub returns-in-len4-up : goal.returns-in-len4-up
 returns-in-len4-up c = omega (arith, word_of_rest c.args.file.now c.args.at c.in-Some.ensures.lookup.0.2)
+
+pub returns-in-len3-up : goal.returns-in-len3-up
+returns-in-len3-up c =
+    let rest = c.in-Some.rest.now in
+    let fourth = get_or-eq_default rest 0 {n = 3} (omega (arith, c.in_default-rest.len_below)) in
+    omega (arith, word_of_rest c.args.file.now c.args.at c.in-Some.ensures.lookup.0.2)
