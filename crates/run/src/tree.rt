@@ -3,8 +3,7 @@
 // and in no ghost field, as it does not hold while a key is being changed.
 ghost use Rattle.std.specs.Prelude.{◌≡◌, ◌+◌, ◌≤◌, ◌<◌};
 ghost use Rattle.books.proofs.Tree.Climb.{Climb, Climbed, Climbs};
-ghost use Rattle.books.proofs.Tree.Winners.{Beside, Enough, Leaf, Rival, Set, root_of};
-ghost use Rattle.sizes.specs.Sizes.{most_servers};
+ghost use Rattle.books.proofs.Tree.Winners.{Beside, Leaf, Rival, Set, leaves_for, root_of};
 
 use books::WinnerTree;
 
@@ -91,12 +90,11 @@ fn leaf_of(tree: &WinnerTree, i: usize) -> usize
     usize::from(tree.leaves) + i
 }
 
-// How many leaves so many servers need.
+// As many leaves as so many servers need: each leaf more than that would make every climb longer.
 pub(crate) fn leaves_of(count: usize) -> u8
-    requires { count ≤ most_servers }
-    ensures { Enough count result }
+    ensures { result ≡ leaves_for count }
 {
-    count.next_power_of_two().clamp(2, sizes::MOST_SERVERS) as u8
+    count.min(sizes::MOST_SERVERS).next_power_of_two().max(2) as u8
 }
 
 // The place of the half of the servers that server i is not of.

@@ -1,10 +1,14 @@
 -- A winner tree with n leaves, in a list of 128 numbers: the keys of as many servers stand at places n to 2n - 1, and each place p from 1
 -- to n - 1 holds the lesser of those at 2p and 2p + 1. Place 0 and those from 2n on are unused.
 use Prim.Native.Nat.{ℕ, zero, suc, ◌+◌, ◌*◌, ◌-◌, ◌/◌, ◌^◌, ◌≤◌, ◌<◌, max, min}
+use borrow.Author.Tests.{le-ltb, lt-ltb, ltb-false}
+use lib.Dec.{ltb}
 use lib.ListN.{length, get_or, set, replicate, length-replicate, get_or-replicate}
+use lib.Pow.{pow_mono}
+use mathlib.Core.Bool.{Bool, true, false, cond}
 use mathlib.Core.List.{List}
 use mathlib.Core.Logic.{◌≢◌}
-use mathlib.Core.Path.{◌≡◌, sym, ◌∙◌, ap, subst⁻¹, subst₂}
+use mathlib.Core.Path.{◌≡◌, refl, sym, ◌∙◌, ap, subst⁻¹, subst₂}
 use native.Mathlib.Decide.{dec_le, dec_lt, ℕ_discrete}
 use native.Mathlib.Nat.{min-eq_left, pow-succ'}
 use native.Mathlib.Omega.{arith}
@@ -130,12 +134,45 @@ winners_same n k some few pairs =
     same : (q : ℕ) → q < 128 → get_or (replicate 128 k) q 0 ≡ k
     same q h = get_or-replicate 128 q k 0 h
 
+-- How many leaves so many servers need: the least of 2, 4, 8 .. 64 that is no less.
+unfoldable pub leaves_for : ℕ → ℕ
+leaves_for count =
+    cond (ltb 32 count) 64 (cond (ltb 16 count) 32 (cond (ltb 8 count) 16 (cond (ltb 4 count) 8 (cond (ltb 2 count) 4 2))))
+
 -- So many leaves are enough for so many servers.
 pub record Enough (count n : ℕ) : Type 0 where
   pub some : 2 ≤ n
   pub few : n ≤ 64
   pub pairs : 2 * (n / 2) ≡ n
   pub enough : count ≤ n
+
+pub leaves_enough : (count : ℕ) → count ≤ 64 → Enough count (leaves_for count)
+unfolding leaves_for
+leaves_enough count most =
+    by 32 64 _ (omega arith) (omega arith) refl most
+    (λ l. by 16 32 _ (omega arith) (omega arith) refl l
+    (λ l. by 8 16 _ (omega arith) (omega arith) refl l
+    (λ l. by 4 8 _ (omega arith) (omega arith) refl l
+    (λ l. by 2 4 2 (omega arith) (omega arith) refl l (λ l. record { some = omega arith; few = omega arith; pairs = refl; enough = l })))))
+  where
+    by : (half n rest : ℕ) → 2 ≤ n → n ≤ 64 → 2 * (n / 2) ≡ n → count ≤ n → (count ≤ half → Enough count rest) → Enough count (cond (ltb half count) n rest)
+    by half n rest some few pairs fits else = go (ltb half count) refl
+      where
+        go : (b : Bool) → ltb half count ≡ b → Enough count (cond b n rest)
+        go true e = record { some = some; few = few; pairs = pairs; enough = fits }
+        go false e = else (ltb-false half count e)
+
+-- they are the least power of 2 that is no less than so many, or than 64, and two at least
+pub leaves_power : (count : ℕ) {n : ℕ} (k : ℕ) → n ≡ 2 ^ k → min count 64 ≤ n → n / 2 < max 1 (min count 64) → max 2 n ≡ leaves_for count
+unfolding leaves_for
+leaves_power count zero e fits half = rw (le-ltb 32 count (omega (arith, e)), le-ltb 16 count (omega (arith, e)), le-ltb 8 count (omega (arith, e)), le-ltb 4 count (omega (arith, e)), le-ltb 2 count (omega (arith, e))) (omega (arith, e))
+leaves_power count (suc zero) e fits half = rw (le-ltb 32 count (omega (arith, e)), le-ltb 16 count (omega (arith, e)), le-ltb 8 count (omega (arith, e)), le-ltb 4 count (omega (arith, e)), le-ltb 2 count (omega (arith, e))) (omega (arith, e))
+leaves_power count (suc (suc zero)) e fits half = rw (le-ltb 32 count (omega (arith, e)), le-ltb 16 count (omega (arith, e)), le-ltb 8 count (omega (arith, e)), le-ltb 4 count (omega (arith, e)), lt-ltb 2 count (omega (arith, e))) (omega (arith, e))
+leaves_power count (suc (suc (suc zero))) e fits half = rw (le-ltb 32 count (omega (arith, e)), le-ltb 16 count (omega (arith, e)), le-ltb 8 count (omega (arith, e)), lt-ltb 4 count (omega (arith, e))) (omega (arith, e))
+leaves_power count (suc (suc (suc (suc zero)))) e fits half = rw (le-ltb 32 count (omega (arith, e)), le-ltb 16 count (omega (arith, e)), lt-ltb 8 count (omega (arith, e))) (omega (arith, e))
+leaves_power count (suc (suc (suc (suc (suc zero))))) e fits half = rw (le-ltb 32 count (omega (arith, e)), lt-ltb 16 count (omega (arith, e))) (omega (arith, e))
+leaves_power count (suc (suc (suc (suc (suc (suc zero)))))) e fits half = rw (lt-ltb 32 count (omega (arith, e))) (omega (arith, e))
+leaves_power count (suc (suc (suc (suc (suc (suc (suc k))))))) e fits half = let no : ⊥ = omega (arith, e, pow_mono {i = 7} {j = suc (suc (suc (suc (suc (suc (suc k))))))} (omega arith)) in absurd no
 
 -- a power of 2 is, within 2 and 64, that is no less
 pub enough_power : {count n : ℕ} → count ≤ 64 → (k : ℕ) → n ≡ 2 ^ k → count ≤ n → Enough count (max 2 (min n 64))

@@ -2,7 +2,7 @@
 use Prim.Native.Nat.{ℕ, ◌≤◌}
 use lib.ListN.{length, replicate, length-replicate}
 use mathlib.Core.List.{List, []}
-use mathlib.Core.Path.{◌≡◌, sym, ◌∙◌, ap, subst, subst⁻¹}
+use mathlib.Core.Path.{◌≡◌, sym, ◌∙◌, ap, subst⁻¹}
 use native.Mathlib.Omega.{arith}
 use Rattle.books.proofs.Accepted.{arrivals_read, horizon_read, servers_read, fit_beside}
 use Rattle.books.proofs.Book.{lent_in, standing_at, Book, book, turns_of, job_book, segment_book}
@@ -11,7 +11,7 @@ use Rattle.books.proofs.Travel.Travels.{Travels, travels_start}
 use Rattle.books.proofs.Travel.WholeRun.{list_whole, count_whole, finishes_whole, postponed_whole, interrupted_all}
 use Rattle.books.specs.declared.Standing.{Standing}
 use Rattle.books.specs.declared.Turns.{Turns}
-use Rattle.books.proofs.Tree.Winners.{tree_same, Enough}
+use Rattle.books.proofs.Tree.Winners.{tree_same, Enough, leaves_for, leaves_enough}
 use Rattle.clock.specs.Clock.{last_tick}
 use Rattle.clock.specs.declared.Moment.{Moment}
 use Rattle.finish.specs.Finish.{is_open, finish_list}
@@ -22,9 +22,6 @@ use Rattle.trace.specs.Trace.{begun}
 use Rattle.workfile.specs.Work.{Work, work}
 use Rattle.run.proofs.travel.travel.Goals as goal
 use Rattle.run.proofs.travel.travel.Goals.{After-from_start, After-to_moment-end}
-
-pub leaves_of-requires : goal.leaves_of-requires
-leaves_of-requires c = omega (arith, servers_read _ c.header_of-h.ensures, c.requires.accepted.fit.servers)
 
 pub open_all-requires : goal.open_all-requires
 open_all-requires c = omega (arith, arrivals_read _ c.header_of-h.ensures, c.requires.file_in_bounds)
@@ -70,7 +67,8 @@ fit p = fit_beside (length (opened p)) p.requires.accepted.fit (long p)
 -- its tree has leaves enough
 enough : (p : After-from_start) → Enough (its p).table.count p.leaves_of.result
 enough p =
-    subst (λ (count : ℕ). Enough count p.leaves_of.result) (servers_read _ p.header_of-h.ensures) p.leaves_of.ensures
+    subst⁻¹ (Enough (its p).table.count) (p.leaves_of.ensures ∙ ap leaves_for (servers_read _ p.header_of-h.ensures))
+    (leaves_enough (its p).table.count (fit p).servers)
 
 -- the turns as they begin
 abbrev turns : After-from_start → Turns

@@ -1,9 +1,11 @@
--- `run::tree::leaves_of` meets its promise: the next power of 2 is enough.
-use mathlib.Core.Path.{subst⁻¹}
-use Rattle.books.proofs.Tree.Winners.{Enough, enough_power}
+-- `run::tree::leaves_of` meets its promise: the next power of 2 is the least that is no less.
+use native.Mathlib.Omega.{arith}
+use Rattle.books.proofs.Tree.Winners.{leaves_power}
 use Rattle.run.proofs.tree.leaves_of.Goals as goal
 
 pub returns : goal.returns
 returns c =
     let next = c.next_power_of_two.ensures in
-    subst⁻¹ (Enough c.args.count) c.clamp.ensures (enough_power c.requires next.power.0 next.power.1 next.lower_bound)
+    let bounds = c.min.ensures in
+    let least = leaves_power c.args.count next.power.0 next.power.1 (omega (arith, bounds, next.lower_bound)) (omega (arith, bounds, next.upper_bound)) in
+    omega (arith, c.max.ensures, least)
