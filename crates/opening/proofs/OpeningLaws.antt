@@ -1,12 +1,12 @@
 -- Opening case by case, and that it lands within the ranges of the moves.
-use Prim.Native.Nat.{ℕ, ◌/◌, ◌%◌, ◌≤◌}
+use Prim.Native.Nat.{ℕ, ◌+◌, ◌*◌, ◌/◌, ◌%◌, ◌≤◌}
 use borrow.Author.Tests.{eqb-true, ltb-false, not-false}
 use lib.Dec.{ltb}
-use lib.ListN.{length}
+use lib.ListN.{length, get_or-eq_default}
 use mathlib.Core.Bool.{true, false}
 use mathlib.Core.List.{List}
-use mathlib.Core.Path.{◌≡◌, refl, sym, ◌∙◌, ap}
-use native.Mathlib.Nat.{not-suc-le-zero}
+use mathlib.Core.Path.{◌≡◌, refl, sym, ◌∙◌, ap, ap₂}
+use native.Mathlib.Nat.{div-add-mod, not-suc-le-zero}
 use native.Mathlib.Omega.{arith}
 use Rattle.booking.proofs.AdmissionLaws.{Admitted, admitted}
 use Rattle.booking.specs.Admission.{admission}
@@ -49,6 +49,12 @@ in_range numbers H e =
       few = ltb-false _ _ tests.2;
       even = eqb-true _ _ (not-false _ tests.3);
     }
+
+-- behind the table's bookings there is none
+pub listed_behind : (l : List ℕ) (k : ℕ) → length l % 2 ≡ 0 → length l / 2 ≤ k → (listed l).booking k ≡ booked 0 0
+listed_behind l k even behind =
+    ap₂ booked (get_or-eq_default l 0 {n = 2 * k} (omega (arith, even, behind, div-add-mod (length l) 2)))
+    (get_or-eq_default l 0 {n = 2 * k + 1} (omega (arith, even, behind, div-add-mod (length l) 2)))
 
 -- what an accepted table is
 accepted_parts : (l : List ℕ) (H : Length) → table_judged l H ≡ accepted

@@ -2,11 +2,12 @@
 use Prim.Native.Nat.{ℕ, zero, suc, ◌+◌, ◌≤◌, ◌<◌, min}
 use borrow.Author.Tests.{eq-eqb, ne_eqb, lt-ltb, le-ltb}
 use lib.Dec.{eqb, ltb, leb}
-use lib.ListN.{get_or, replicate, set, length-append}
+use lib.ListN.{length, get_or, replicate, set, length-append}
 use mathlib.Core.Bool.{Bool, true, false, cond, ◌||◌, true≢false, false≢true}
 use mathlib.Core.List.{List, [], ◌∷◌}
 use mathlib.Core.Path.{◌≡◌, refl, sym, ◌∙◌, ap, ap₂}
 use native.Mathlib.Decide.{ℕ_discrete}
+use native.Mathlib.Nat.{le_of_suc-le-suc, not-suc-le-zero}
 use native.Mathlib.Omega.{arith}
 use Rattle.arrival.specs.declared.Arrival.{Arrival}
 use Rattle.clock.specs.Clock.{moment, until}
@@ -24,6 +25,12 @@ use Rattle.summary.specs.declared.Summary.{Summary}
 use Rattle.workfile.specs.Work.{Work}
 use Rattle.records.specs.Records.{finish_in}
 use Rattle.records.specs.Working.Job.{with_job, Roomy, counted, over_jobs, record_up_to, records_up_to, finish_by, is_open_at}
+
+-- a place of a list is read as it is, whatever stands for what is behind the end
+pub place_read : (l : List ℕ) (k d e : ℕ) → k < length l → get_or l k d ≡ get_or l k e
+place_read [] k d e b = absurd (not-suc-le-zero b)
+place_read (x ∷ l) zero d e b = refl
+place_read (x ∷ l) (suc k) d e b = place_read l k d e (le_of_suc-le-suc b)
 
 -- no number of a list is more than that of an open job, whatever stands for what is behind the end, where no place has more
 still_narrow : (l : List ℕ) → ((j : ℕ) → get_or l j 0 ≤ open_job) → (j : ℕ) → get_or l j open_job ≤ open_job

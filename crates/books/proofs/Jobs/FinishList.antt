@@ -68,15 +68,15 @@ finishes_again m f g list =
         rw (le-ltb k m (omega arith))
         (get_d_places (length list) (λ k. cond (ltb k m) (finish_number (g k)) (get_or list k 0)) k 0 b ∙ rw (le-ltb k m (omega arith)))
 
-none_open : (list : List ℕ) → finish_list 0 (λ k. is_open) list ≡ list
+pub finishes_none : (list : List ℕ) → finish_list 0 (λ k. is_open) list ≡ list
 unfolding finish_list
-none_open list =
+finishes_none list =
     places_same (length list) _ (λ k. get_or list k 0) (λ k b. rw (le-ltb k 0 zero-le)) ∙ places_get_d list 0
 
 -- the number of an open job in each of the first m places
 pub finishes_open : (m : ℕ) (list : List ℕ) → m ≤ length list → replicate m open_job ++ drop m list ≡ finish_list m (λ k. is_open) list
 unfolding finish_list places
-finishes_open zero list l = sym (none_open list)
+finishes_open zero list l = sym (finishes_none list)
 finishes_open (suc m) [] l = let no : ⊥ = omega arith in absurd no
 finishes_open (suc m) (x ∷ xs) l =
     ap₂ (λ (n : ℕ) (rest : List ℕ). n ∷ rest) first

@@ -5,7 +5,7 @@ use mir.Val.{bool_byte}
 use mathlib.Core.Bool.{Bool, true, false, cond}
 use mathlib.Core.Path.{◌≡◌, refl, sym, ◌∙◌, ap, subst⁻¹, subst₂}
 use native.Mathlib.Decide.{dec_lt}
-use native.Mathlib.Nat.{le-mul_of_pos_right, mul-le-mul}
+use native.Mathlib.Nat.{le-mul_of_pos_right, mul-le-mul, mul-le-mul_left}
 use native.Mathlib.Omega.{arith}
 use Rattle.clock.specs.Clock.{last_tick}
 use Rattle.clock.specs.declared.Length.{Length}
@@ -16,9 +16,12 @@ use Rattle.server.specs.Ranges.{Ranged}
 use Rattle.server.specs.declared.Server.{Server}
 use Rattle.sizes.specs.Sizes.{clock_end, most_frame}
 use Rattle.books.proofs.Budgets.BudgetLaws.{periods_few}
-use Rattle.books.proofs.Budgets.Budgets.{Able, Budgets, budgets_on, Further}
+use Rattle.books.proofs.Book.{SegmentBook}
+use Rattle.books.proofs.Budgets.Budgets.{Able, Budgets, BudgetsFrom, budgets_on, Further}
 use Rattle.books.proofs.Tree.Keys.{key_of}
-use Rattle.books.proofs.Spell.Planned.{MayPlan, Planned}
+use Rattle.books.specs.declared.PlannedSpell.{PlannedSpell}
+use Rattle.books.specs.declared.Turns.{Turns}
+use Rattle.books.proofs.Spell.Planned.{MayGo, MayPlan, Planned}
 use Rattle.books.specs.declared.WinnerTree.{WinnerTree}
 
 -- A server within its ranges before the end of the clock.
@@ -151,3 +154,27 @@ module _ {tree : WinnerTree} {i : ℕ} {s : Server} {most ticks spare : ℕ} {af
           works = further_works;
           gone_after = ap (λ (q : ℕ). ticks + n * q) after_budget ∙ sym gone_is;
         }
+
+-- a spell postpones its server at most once more than it has budgets, and each budget takes a tick at least
+pub planned_few : {tree : WinnerTree} {i : ℕ} {s : Server} {most : ℕ} {p : PlannedSpell} → Planned tree i s most p
+    → 1 ≤ s.budget.ticks → p.postponed ≤ most + 1
+planned_few {s = s} {p = p} plan one =
+    omega (
+      arith,
+      plan.postponed_is,
+      spent_once p.ticks.ticks s.remaining.ticks refl,
+      plan.gone_is,
+      plan.gone_inside,
+      mul-le-mul_left p.budgets one,
+    )
+
+-- there is work and time for its budgets, which begin behind its ticks
+pub planned_budgets : {t i : ℕ} {s : Server} {most : ℕ} {b : Turns} {x : SegmentBook} {p : PlannedSpell}
+    → MayGo t i s most b x → Planned b.tree i s most p → BudgetsFrom (t + p.ticks.ticks) i p.after p.budgets
+planned_budgets may plan =
+    record {
+      place = omega (arith, may.plans.leaf.place, may.plans.leaf.winners.few);
+      able = plan.able;
+      time = omega (arith, plan.gone_after, plan.gone_inside, may.in_time);
+      works = plan.works;
+    }
