@@ -1,7 +1,7 @@
 // The judgement of a work file by the refusals 1 to 9, in the order of the rules.
 #![tactic(auto)]
 
-ghost use Rattle.std.specs.Prelude.{◌≡◌};
+ghost use Rattle.std.specs.Prelude.{◌≡◌, leb, ltb};
 ghost use Rattle.refusal.specs.Refusals.{on_paper};
 ghost use Rattle.workfile.specs.Work.{work_under};
 ghost use Rattle.judgement.specs.Judgement.{length_out_of_range, sizes_out_of_range, layout_broken, judged};
@@ -47,10 +47,10 @@ fn judge_arrivals(file: &[u8], h: Header, places: usize) -> Result<(), Refusal>
         if faulty {
             return Err(Refusal::FaultyArrival(k));
         }
-        if now < before {
+        if is_backward(now, before) {
             return Err(Refusal::BackwardArrival(k));
         }
-        if h.horizon <= now {
+        if is_late(now, h.horizon) {
             return Err(Refusal::LateArrival(k));
         }
         before = now;
@@ -59,6 +59,22 @@ fn judge_arrivals(file: &[u8], h: Header, places: usize) -> Result<(), Refusal>
         return Err(Refusal::FinishList);
     }
     Ok(())
+}
+
+// The test for 7. This and the next are functions of their own, so that what is known where they answer is named after no operator.
+#[tactic(auto, using(clock::proofs::OrderLaws::less_is, clock::proofs::OrderLaws::at_most_is))]
+fn is_backward(now: Moment, before: Moment) -> bool
+    ensures { result ≡ ltb now.tick before.tick }
+{
+    now < before
+}
+
+// The test for 8.
+#[tactic(auto, using(clock::proofs::OrderLaws::less_is, clock::proofs::OrderLaws::at_most_is))]
+fn is_late(now: Moment, horizon: Moment) -> bool
+    ensures { result ≡ leb horizon.tick now.tick }
+{
+    horizon <= now
 }
 
 // The test for 1.

@@ -2,19 +2,27 @@
 // place is touched but those that the added bytes take. `write!` is no form of it: what it writes is told only where all of it fits.
 #![tactic(auto)]
 
-ghost use Rattle.std.specs.Prelude.{◌%◌, ◌++◌, ◌≡◌};
+ghost use Rattle.std.specs.Prelude.{◌%◌, ◌++◌, ◌≡◌, ◌∷◌, []};
 ghost use Rattle.text.specs.Line.{decimal, digit};
 ghost use Rattle.page.specs.Page.{Added};
 
 use page::Page;
 
-// Adds bytes, as many as fit.
+// Adds bytes, as many as fit. They are taken by their places: the edit `first_byte_left_out` begins at another one, and over a part of the
+// bytes in place of them the proof would be another too.
 pub fn add(text: &mut Page<'_, u8>, bytes: &[u8])
     ensures { Added bytes.now text.old text.new }
 {
-    for &byte in bytes {
-        text.add(byte);
+    for k in 0..bytes.len() {
+        add_byte(text, bytes[k]);
     }
+}
+
+// Adds one byte of words or of digits, where there is room.
+fn add_byte(text: &mut Page<'_, u8>, byte: u8)
+    ensures { Added (byte ∷ []) text.old text.new }
+{
+    text.add(byte);
 }
 
 // Adds a number in decimal, as many digits as fit. A call adds the last two digits behind a hundredth of the number: that is quicker than
@@ -23,14 +31,14 @@ pub fn add_number(text: &mut Page<'_, u8>, n: u64)
     ensures { Added (decimal n) text.old text.new }
 {
     if n < 10 {
-        return text.add(last_digit(n));
+        return add_byte(text, last_digit(n));
     }
     let tenth = n / 10;
     if 10 <= tenth {
         add_number(text, tenth / 10);
     }
-    text.add(last_digit(tenth));
-    text.add(last_digit(n));
+    add_byte(text, last_digit(tenth));
+    add_byte(text, last_digit(n));
 }
 
 // The last digit of a number, as a byte. (By `as`: the digit fits, which `try_from` would test again.)

@@ -18,12 +18,12 @@ byte_as : {p q : Page ℕ} {b d : ℕ} → b ≡ d → Added (b ∷ []) p q → 
 byte_as e = adds_as (ap (λ (b : ℕ). b ∷ []) e)
 
 pub returns-then-n-lt10 : goal.returns-then-n-lt10
-returns-then-n-lt10 t c = adds_as (sym (decimal_one _ c.if-n-lt10.true)) (byte_as c.last_digit.ensures c.add.ensures)
+returns-then-n-lt10 t c = adds_as (sym (decimal_one _ c.if-n-lt10.true)) (byte_as c.last_digit.ensures c.add_byte.ensures)
 
 pub returns : goal.returns
 returns t c =
-    let one = byte_as c.last_digit-2.ensures c.add-2.ensures in
-    let tenth : Added (decimal (c.args.n / 10)) c.args.text.now c.add-2.new.self =
+    let one = byte_as c.last_digit-2.ensures c.add_byte-2.ensures in
+    let tenth : Added (decimal (c.args.n / 10)) c.args.text.now c.add_byte-2.new.text =
     elim c.if-tenth-ge10.branch [
       | then-tenth-ge10 w ↦
           adds_as (sym (decimal_more _ w.if-tenth-ge10.true))
@@ -31,4 +31,4 @@ returns t c =
       | else-tenth-ge10 w ↦
           adds_as (sym (decimal_one _ w.if-tenth-ge10.false)) (adds_from w.text-is one)
     ] in
-    adds_as (sym (decimal_more _ c.if-n-lt10.false)) (adds_then tenth (byte_as c.last_digit-3.ensures c.add-3.ensures))
+    adds_as (sym (decimal_more _ c.if-n-lt10.false)) (adds_then tenth (byte_as c.last_digit-3.ensures c.add_byte-3.ensures))

@@ -2,8 +2,8 @@
 use Rattle.page.proofs.PageLaws.{adds_none, adds_next}
 use Rattle.text.proofs.add.Goals as goal
 
-pub loop-byte-init : goal.loop-byte-init
-loop-byte-init c = adds_none _
+pub loop-k-init : goal.loop-k-init
+loop-k-init c = adds_none _
 
-pub loop-byte-preserved : goal.loop-byte-preserved
-loop-byte-preserved c = adds_next _ c.loop-byte.byte-index 0 c.loop-byte-test.true c.loop-byte.invariant c.add.ensures
+pub loop-k-preserved : goal.loop-k-preserved
+loop-k-preserved c = adds_next _ c.loop-k.k 0 c.loop-k-test.true c.loop-k.invariant c.add_byte.ensures

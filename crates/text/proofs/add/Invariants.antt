@@ -3,5 +3,5 @@ use lib.ListN.{take}
 use Rattle.page.specs.Page.{Added}
 use Rattle.text.proofs.add.Given as goal
 
-abbrev pub invariant-loop-byte : goal.invariant-loop-byte
-invariant-loop-byte l = Added (take l.byte-index l.bytes) l.initial.text l.text
+abbrev pub invariant-loop-k : goal.invariant-loop-k
+invariant-loop-k l = Added (take l.k l.bytes) l.initial.text l.text
