@@ -61,7 +61,7 @@ fn judge_arrivals(file: &[u8], h: Header, places: usize) -> Result<(), Refusal>
     Ok(())
 }
 
-// The test for 7. This and the next are functions of their own, so that what is known where they answer is named after no operator.
+// The test for 7. It and the test for 8 are functions of their own: the proof of the loop above then stands, whichever comparison is in them.
 #[tactic(auto, using(clock::proofs::OrderLaws::less_is, clock::proofs::OrderLaws::at_most_is))]
 fn is_backward(now: Moment, before: Moment) -> bool
     ensures { result ≡ ltb now.tick before.tick }

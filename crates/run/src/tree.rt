@@ -1,7 +1,7 @@
 // Keys are set in the winner tree, and the least of some are told. These are functions and no methods: a method would be a public
 // function of `books`, and the edit `old_key_left_above` of this crate could not spoil it. What each may ask of the tree stands in its contract
 // and in no ghost field, as it does not hold while a key is being changed.
-ghost use Rattle.std.specs.Prelude.{◌≡◌, ◌+◌, ◌≤◌, ◌<◌};
+ghost use Rattle.std.specs.Prelude.{◌≡◌, ◌+◌, ◌<◌};
 ghost use Rattle.books.proofs.Tree.Climb.{Climb, Climbed, Climbs};
 ghost use Rattle.books.proofs.Tree.Winners.{Beside, Leaf, Rival, Set, leaves_for, root_of};
 

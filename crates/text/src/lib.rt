@@ -8,8 +8,8 @@ ghost use Rattle.page.specs.Page.{Added};
 
 use page::Page;
 
-// Adds bytes, as many as fit. They are taken by their places: the edit `first_byte_left_out` begins at another one, and over a part of the
-// bytes in place of them the proof would be another too.
+// Adds bytes, as many as fit. (By their places, of which the edit `first_byte_left_out` leaves out the first: a loop over the bytes
+// themselves could leave it out only by another list, and then its proof would fail whatever that is.)
 pub fn add(text: &mut Page<'_, u8>, bytes: &[u8])
     ensures { Added bytes.now text.old text.new }
 {
