@@ -7,16 +7,16 @@ use contract.Monad.{fact, fact_i}
 use denote.Plain.{UInt}
 use denote.RattleType.{RattleType}
 use mathlib.Core.List.{List, [], ◌∷◌}
-use mathlib.Core.Path.{◌≡◌, refl, ap₂}
-use mir.Syntax.{Dict, w8, w64}
-use Rattle.promise.proofs.OneOutcomeLaws.{both_are}
-use Rattle.std.specs.Borrow.{GName}
+use mathlib.Core.Path.{◌≡◌, refl}
+use mir.Syntax.{Dict, Width}
 use Rattle.std.specs.declared.clone.Clone.{Ghosts as Copies}
 use Rattle.walks.proofs.AsksNothingLaws.{no_premise}
 use Rattle.walks.specs.AsksNothing.{AsksNothingWalked}
 use Rattle.walks.specs.OneOutcome.{OneOutcomeLentWalked}
 use Rattle.page.specs.Page.{Added}
 use Rattle.page.specs.contracts.Page.add as add
+use Rattle.page.proofs.LeftLaws.{added_left}
+use Rattle.std.specs.Borrow.{GName}
 
 -- whatever the items are
 module _ (T : RattleType) (copies : Copies T.Denot) (copying : Dict) where
@@ -24,10 +24,7 @@ module _ (T : RattleType) (copies : Copies T.Denot) (copying : Dict) where
       (λ κs e. (e.0.now.list.ghost_name, (e.0.now.list.now, e.0.now.next)))
   add_one = (
     (λ κs a r e. Added (a.1.0 ∷ []) a.0.now e.0.now),
-    (
-      (λ M 𝓤 𝓛 mem run κs a g r e. id⊢ 𝓤 _),
-      (λ κs a x y at_x at_y p q. (refl, ap₂ (λ n r. (n, r)) (both_are p.same_list q.same_list) (both_are p.filled q.filled))),
-    ),
+    ((λ M 𝓤 𝓛 mem run κs a g r e. id⊢ 𝓤 _), (λ κs a x y at_x at_y p q. (refl, added_left p q))),
   )
 
   -- that hold no reference
@@ -37,18 +34,7 @@ module _ (T : RattleType) (copies : Copies T.Denot) (copying : Dict) where
       let outlived : outlives = rw plain (⊑_static _) in
       (tt, λ P. via 𝓤 _ (emp∗ 𝓤 P) (via 𝓤 _ (mono_l 𝓤 P (fact_i 𝓤 outlives (emp 𝓤) outlived)) (mono_r 𝓤 (fact 𝓤 outlives) (no_premise 𝓤 P))))
 
--- and so of bytes and of numbers
-module _ (copies : Copies ℕ) (copying : Dict) where
-  pub add_byte_one : OneOutcomeLentWalked {X = GName × (List ℕ × ℕ)} (add.ended (UInt w8) copies copying) (λ M 𝓤. add.clauses (UInt w8) copies copying)
-      (λ κs e. (e.0.now.list.ghost_name, (e.0.now.list.now, e.0.now.next)))
-  add_byte_one = add_one (UInt w8) copies copying
-
-  pub add_byte_asks : AsksNothingWalked (add.ended (UInt w8) copies copying) (λ M 𝓤. add.clauses (UInt w8) copies copying)
-  add_byte_asks = add_asks (UInt w8) copies copying refl
-
-  pub add_number_one : OneOutcomeLentWalked {X = GName × (List ℕ × ℕ)} (add.ended (UInt w64) copies copying) (λ M 𝓤. add.clauses (UInt w64) copies copying)
-      (λ κs e. (e.0.now.list.ghost_name, (e.0.now.list.now, e.0.now.next)))
-  add_number_one = add_one (UInt w64) copies copying
-
-  pub add_number_asks : AsksNothingWalked (add.ended (UInt w64) copies copying) (λ M 𝓤. add.clauses (UInt w64) copies copying)
-  add_number_asks = add_asks (UInt w64) copies copying refl
+-- and so of numbers of every width, bytes among them
+pub add_number_asks : (w : Width) (copies : Copies ℕ) (copying : Dict)
+    → AsksNothingWalked (add.ended (UInt w) copies copying) (λ M 𝓤. add.clauses (UInt w) copies copying)
+add_number_asks w copies copying = add_asks (UInt w) copies copying refl

@@ -1,4 +1,5 @@
 pub mod EachLaws
 pub mod InEveryModel
+pub mod LeftLaws
 pub mod PageLaws
 pub mod Promises

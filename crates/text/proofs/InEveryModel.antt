@@ -2,10 +2,9 @@
 use Prim.Native.Nat.{ℕ}
 use base.Logic.{id⊢}
 use mathlib.Core.List.{List, ◌++◌}
-use mathlib.Core.Path.{refl, ap₂}
+use mathlib.Core.Path.{refl}
+use Rattle.page.proofs.LeftLaws.{added_left}
 use Rattle.page.specs.Page.{Added}
-use Rattle.promise.proofs.OneOutcomeLaws.{both_are}
-use Rattle.std.specs.Borrow.{GName}
 use Rattle.walks.proofs.AsksNothingLaws.{no_premise}
 use Rattle.walks.specs.AsksNothing.{AsksNothingWalked}
 use Rattle.walks.specs.OneOutcome.{OneOutcomeLentWalked}
@@ -13,15 +12,13 @@ use Rattle.text.specs.Line.{decimal}
 use Rattle.text.specs.contracts.add as add
 use Rattle.text.specs.contracts.add_number as add-number
 use Rattle.text.specs.contracts.add_numbered as add-numbered
+use Rattle.std.specs.Borrow.{GName}
 
 pub add_one : OneOutcomeLentWalked {X = GName × (List ℕ × ℕ)} add.ended (λ M 𝓤. add.clauses)
     (λ κs e. (e.0.now.list.ghost_name, (e.0.now.list.now, e.0.now.next)))
 add_one = (
   (λ κs a r e. Added a.1.0.now a.0.now e.0.now),
-  (
-    (λ M 𝓤 𝓛 mem run κs a g r e. id⊢ 𝓤 _),
-    (λ κs a x y at_x at_y p q. (refl, ap₂ (λ n r. (n, r)) (both_are p.same_list q.same_list) (both_are p.filled q.filled))),
-  ),
+  ((λ M 𝓤 𝓛 mem run κs a g r e. id⊢ 𝓤 _), (λ κs a x y at_x at_y p q. (refl, added_left p q))),
 )
 
 pub add_asks : AsksNothingWalked add.ended (λ M 𝓤. add.clauses)
@@ -31,10 +28,7 @@ pub add_number_one : OneOutcomeLentWalked {X = GName × (List ℕ × ℕ)} add-n
     (λ κs e. (e.0.now.list.ghost_name, (e.0.now.list.now, e.0.now.next)))
 add_number_one = (
   (λ κs a r e. Added (decimal a.1.0) a.0.now e.0.now),
-  (
-    (λ M 𝓤 𝓛 mem run κs a g r e. id⊢ 𝓤 _),
-    (λ κs a x y at_x at_y p q. (refl, ap₂ (λ n r. (n, r)) (both_are p.same_list q.same_list) (both_are p.filled q.filled))),
-  ),
+  ((λ M 𝓤 𝓛 mem run κs a g r e. id⊢ 𝓤 _), (λ κs a x y at_x at_y p q. (refl, added_left p q))),
 )
 
 pub add_number_asks : AsksNothingWalked add-number.ended (λ M 𝓤. add-number.clauses)
@@ -44,10 +38,7 @@ pub add_numbered_one : OneOutcomeLentWalked {X = GName × (List ℕ × ℕ)} add
     (λ κs e. (e.0.now.list.ghost_name, (e.0.now.list.now, e.0.now.next)))
 add_numbered_one = (
   (λ κs a r e. Added (a.1.0.now ++ decimal a.1.1.0) a.0.now e.0.now),
-  (
-    (λ M 𝓤 𝓛 mem run κs a g r e. id⊢ 𝓤 _),
-    (λ κs a x y at_x at_y p q. (refl, ap₂ (λ n r. (n, r)) (both_are p.same_list q.same_list) (both_are p.filled q.filled))),
-  ),
+  ((λ M 𝓤 𝓛 mem run κs a g r e. id⊢ 𝓤 _), (λ κs a x y at_x at_y p q. (refl, added_left p q))),
 )
 
 pub add_numbered_asks : AsksNothingWalked add-numbered.ended (λ M 𝓤. add-numbered.clauses)

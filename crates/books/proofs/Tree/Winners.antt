@@ -1,7 +1,7 @@
 -- A winner tree with n leaves, in a list of 128 numbers: the keys of as many servers stand at places n to 2n - 1, and each place p from 1
 -- to n - 1 holds the lesser of those at 2p and 2p + 1. Place 0 and those from 2n on are unused.
 use Prim.Native.Nat.{ℕ, zero, suc, ◌+◌, ◌*◌, ◌-◌, ◌/◌, ◌^◌, ◌≤◌, ◌<◌, max, min}
-use borrow.Author.Tests.{le-ltb, lt-ltb, ltb-false}
+use borrow.Author.Tests.{ltb-false, ltb-true}
 use lib.Dec.{ltb}
 use lib.ListN.{length, get_or, set, replicate, length-replicate, get_or-replicate}
 use lib.Pow.{pow_mono}
@@ -162,17 +162,39 @@ leaves_enough count most =
         go true e = record { some = some; few = few; pairs = pairs; enough = fits }
         go false e = else (ltb-false half count e)
 
+-- a power of 2 that is more than the half of another and less than twice it is that one
+power_between : (j k : ℕ) {n : ℕ} → n ≡ 2 ^ k → 2 ^ j < 2 * n → n < 2 * 2 ^ j → n ≡ 2 ^ j
+power_between j k {n} e more less = go (dec_lt j k) (dec_lt k j)
+  where
+    go : Dec (j < k) → Dec (k < j) → n ≡ 2 ^ j
+    go (yes l) d = let no : ⊥ = omega (arith, e, less, pow-succ' 2 j, pow_mono {i = suc j} {j = k} l) in absurd no
+    go (no l) (yes m) = let no : ⊥ = omega (arith, e, more, pow-succ' 2 k, pow_mono {i = suc k} {j = j} m) in absurd no
+    go (no l) (no m) = e ∙ ap (λ (i : ℕ). 2 ^ i) (omega arith)
+
 -- they are the least power of 2 that is no less than so many, or than 64, and two at least
 pub leaves_power : (count : ℕ) {n : ℕ} (k : ℕ) → n ≡ 2 ^ k → min count 64 ≤ n → n / 2 < max 1 (min count 64) → max 2 n ≡ leaves_for count
 unfolding leaves_for
-leaves_power count zero e fits half = rw (le-ltb 32 count (omega (arith, e)), le-ltb 16 count (omega (arith, e)), le-ltb 8 count (omega (arith, e)), le-ltb 4 count (omega (arith, e)), le-ltb 2 count (omega (arith, e))) (omega (arith, e))
-leaves_power count (suc zero) e fits half = rw (le-ltb 32 count (omega (arith, e)), le-ltb 16 count (omega (arith, e)), le-ltb 8 count (omega (arith, e)), le-ltb 4 count (omega (arith, e)), le-ltb 2 count (omega (arith, e))) (omega (arith, e))
-leaves_power count (suc (suc zero)) e fits half = rw (le-ltb 32 count (omega (arith, e)), le-ltb 16 count (omega (arith, e)), le-ltb 8 count (omega (arith, e)), le-ltb 4 count (omega (arith, e)), lt-ltb 2 count (omega (arith, e))) (omega (arith, e))
-leaves_power count (suc (suc (suc zero))) e fits half = rw (le-ltb 32 count (omega (arith, e)), le-ltb 16 count (omega (arith, e)), le-ltb 8 count (omega (arith, e)), lt-ltb 4 count (omega (arith, e))) (omega (arith, e))
-leaves_power count (suc (suc (suc (suc zero)))) e fits half = rw (le-ltb 32 count (omega (arith, e)), le-ltb 16 count (omega (arith, e)), lt-ltb 8 count (omega (arith, e))) (omega (arith, e))
-leaves_power count (suc (suc (suc (suc (suc zero))))) e fits half = rw (le-ltb 32 count (omega (arith, e)), lt-ltb 16 count (omega (arith, e))) (omega (arith, e))
-leaves_power count (suc (suc (suc (suc (suc (suc zero)))))) e fits half = rw (lt-ltb 32 count (omega (arith, e))) (omega (arith, e))
-leaves_power count (suc (suc (suc (suc (suc (suc (suc k))))))) e fits half = let no : ⊥ = omega (arith, e, pow_mono {i = 7} {j = suc (suc (suc (suc (suc (suc (suc k))))))} (omega arith)) in absurd no
+leaves_power count {n} k e fits half =
+    by 5 (λ l. is 6 (omega arith) (omega arith))
+    (λ l. by 4 (λ m. is 5 (omega arith) (omega arith))
+    (λ l. by 3 (λ m. is 4 (omega arith) (omega arith))
+    (λ l. by 2 (λ m. is 3 (omega arith) (omega arith))
+    (λ l. by 1 (λ m. is 2 (omega arith) (omega arith))
+    (λ l. two l (dec_lt 1 n))))))
+  where
+    is : (j : ℕ) → 2 ^ j < 2 * n → n < 2 * 2 ^ j → n ≡ 2 ^ j
+    is j = power_between j k e
+
+    two : count ≤ 2 → Dec (1 < n) → max 2 n ≡ 2
+    two l (yes more) = omega (arith, is 1 (omega arith) (omega arith))
+    two l (no few) = omega arith
+
+    by : (j : ℕ) {rest : ℕ} → (2 ^ j < count → n ≡ 2 ^ (j + 1)) → (count ≤ 2 ^ j → max 2 n ≡ rest) → max 2 n ≡ cond (ltb (2 ^ j) count) (2 ^ (j + 1)) rest
+    by j {rest} here else = go (ltb (2 ^ j) count) refl
+      where
+        go : (b : Bool) → ltb (2 ^ j) count ≡ b → max 2 n ≡ cond b (2 ^ (j + 1)) rest
+        go true told = let is : n ≡ 2 ^ (j + 1) = here (ltb-true (2 ^ j) count told) in omega (arith, is, pow_mono {i = 1} {j = j + 1} (omega arith))
+        go false told = else (ltb-false (2 ^ j) count told)
 
 -- a power of 2 is, within 2 and 64, that is no less
 pub enough_power : {count n : ℕ} → count ≤ 64 → (k : ℕ) → n ≡ 2 ^ k → count ≤ n → Enough count (max 2 (min n 64))
